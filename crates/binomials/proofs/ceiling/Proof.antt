@@ -1,0 +1,27 @@
+use borrow.Author.Needs.{needs}
+use mathlib.Core.Path.{refl, sym, ap, _∙_}
+use Prim.Native.Nat.{ℕ}
+use Rattle.model.specs.Answer.{Answer, given}
+use Rattle.model.specs.Calls.{ceilingSays}
+use Rattle.binomials.proofs.Answers.{too-many-places, too-many-additions, within-bounds}
+use Rattle.binomials.proofs.ceiling.Statement.{statement}
+use Rattle.binomials.proofs.ceiling.Tie as tie
+
+returns : tie.Need-returns
+unfolding ceilingSays
+returns c = sym (too-many-places _ _ (search needs))
+
+returns-2 : tie.Need-returns-2
+unfolding ceilingSays
+returns-2 c = sym (too-many-additions _ _ (search needs))
+
+-- the test of the whole table, computed
+set-count-requires : tie.Need-set-count-requires
+set-count-requires c κs = (record { long = refl; rule = refl; small = refl }, search needs, search needs)
+
+returns-3 : tie.Need-returns-3
+unfolding ceilingSays
+returns-3 c = ap (λ (n : ℕ). given n) (c .set-count .ensures) ∙ sym (within-bounds _ _ (search needs) (search needs))
+
+pub ceiling-spec : {M : Type 1} → statement M
+ceiling-spec = tie.close (tie.spec returns returns-2 set-count-requires returns-3)

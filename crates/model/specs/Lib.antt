@@ -1,0 +1,15 @@
+pub mod Lists
+pub mod Answer
+pub mod Format
+pub mod Ranges
+pub mod Network
+pub mod Paths
+pub mod Rules
+pub mod Outage
+pub mod Sets
+pub mod Walk
+pub mod Text
+pub mod Ceiling
+pub mod Calls
+pub mod Demand
+pub mod Cases

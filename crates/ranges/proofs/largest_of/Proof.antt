@@ -1,0 +1,53 @@
+use borrow.Author.Tests.{eq-eqb, ne-eqb}
+use Rattle.model.specs.Ranges.{largestOf}
+use borrow.Author.Needs.{needs}
+use Rattle.ranges.proofs.largest_of.Statement.{statement}
+use Rattle.ranges.proofs.largest_of.Tie as tie
+use Rattle.ranges.proofs.largest_of.Reads as reads
+use Rattle.ranges.proofs.largest_of.Lts as lts
+
+enum-known-largest : tie.Need-enum-known-largest
+enum-known-largest c = search needs
+
+enum-told : tie.Need-enum-told
+enum-told c = search needs
+
+enum-told-2 : tie.Need-enum-told-2
+enum-told-2 c = search needs
+
+enum-known-largest-2 : tie.Need-enum-known-largest-2
+enum-known-largest-2 c = search needs
+
+returns : tie.Need-returns
+unfolding largestOf
+returns c = rw (c .before .largest .given .1)
+
+returns-2 : tie.Need-returns-2
+unfolding largestOf
+returns-2 c = rw (c .enum-told .given .1)
+
+returns-3 : tie.Need-returns-3
+unfolding largestOf
+returns-3 c = rw (c .enum-told2 .given .1)
+
+returns-4 : tie.Need-returns-4
+unfolding largestOf
+returns-4 c = rw (c .before .before .largest2 .given .1) (rw (eq-eqb _ 1 (c .if1 .taken)))
+
+returns-5 : tie.Need-returns-5
+unfolding largestOf
+returns-5 c = rw (c .before .before .largest2 .given .1) (rw (ne-eqb _ 1 (c .if1 .left)))
+
+pub largest-of-spec : {M : Type 1} → statement M
+largest-of-spec =
+    tie.close
+    (tie.spec
+    enum-known-largest
+    enum-told
+    enum-told-2
+    enum-known-largest-2
+    returns
+    returns-2
+    returns-3
+    returns-4
+    returns-5)

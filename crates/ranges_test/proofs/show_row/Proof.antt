@@ -1,0 +1,42 @@
+use Prim.Native.Nat.{_≤_, _-_}
+use native.Mathlib.Omega.{arith}
+use Rattle.ranges_test.proofs.show_row.Statement.{statement}
+use Rattle.ranges_test.proofs.show_row.Tie as tie
+use Rattle.ranges_test.proofs.show_row.Reads as reads
+use Rattle.ranges_test.proofs.show_row.Lts as lts
+use Rattle.ranges_test.proofs.show.Reads as show-reads
+
+abbrev Inv-loop : tie.InvT-loop
+Inv-loop kind first field₀ field = field ≤ 8
+
+abbrev μ-loop : tie.MeasureT-loop
+μ-loop kind first field₀ field = 8 - field
+
+-- src/main.rt:56:5
+loop-holds : tie.Need-loop-holds Inv-loop μ-loop
+loop-holds c = omega arith
+
+-- src/main.rt:57:9
+show-requires : tie.Need-show-requires Inv-loop μ-loop
+show-requires c κs = omega arith
+
+-- src/main.rt:56:9
+add-field : tie.Need-add-field Inv-loop μ-loop
+add-field c = omega arith
+
+-- src/main.rt:56:5
+loop-less : tie.Need-loop-less Inv-loop μ-loop
+loop-less c = omega arith
+
+-- src/main.rt:56:5
+loop-again : tie.Need-loop-again Inv-loop μ-loop
+loop-again c = omega arith
+
+-- src/main.rt:53:1
+returns : tie.Need-returns Inv-loop μ-loop
+returns c = omega arith
+
+pub show-row-spec : {M : Type 1} → statement M
+show-row-spec =
+    tie.close
+    (tie.spec Inv-loop μ-loop loop-holds show-requires add-field loop-less loop-again returns)
