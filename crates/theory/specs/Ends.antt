@@ -105,13 +105,13 @@ pub data Joins (N : Network) (e : End) (u v : Vertex) : Type 0 where
   out : isOpen N e ≡ false → u ≡ line (e .line) → v ≡ station (stationAt N e) → Joins N e u v
   into : isOpen N e ≡ false → u ≡ station (stationAt N e) → v ≡ line (e .line) → Joins N e u v
 
--- a line of which some end is not open is a line of the file
-line-there : (ls : List Line) (l s : ℕ) → eqb (stateAt (numbered noLine ls l) s) 2 ≡ false → (1 ≤ l) × (l ≤ length ls)
+-- a number at which a list has an element other than the one that stands for none is a number of the list
+pub numbered-there : {A : Type 0} (test : A → Bool) (xs : List A) (other : A) → test other ≡ false → (k : ℕ) → test (numbered other xs k) ≡ true → (1 ≤ k) × (k ≤ length xs)
 unfolding numbered
-line-there ls zero s h = absurd (true≢false (sym (noLine-open s) ∙ h))
-line-there [] (suc k) s h = absurd (true≢false (sym (noLine-open s) ∙ h))
-line-there (x ∷ ls) (suc zero) s h = (omega arith, omega arith)
-line-there (x ∷ ls) (suc (suc k)) s h = let r = line-there ls (suc k) s h in (omega arith, omega (arith, r .1))
+numbered-there test xs other n zero h = absurd (true≢false (sym h ∙ n))
+numbered-there test [] other n (suc k) h = absurd (true≢false (sym h ∙ n))
+numbered-there test (x ∷ xs) other n (suc zero) h = (omega arith, omega arith)
+numbered-there test (x ∷ xs) other n (suc (suc k)) h = let r = numbered-there test xs other n (suc k) h in (omega arith, omega (arith, r .1))
 
 pub in-numbers : (k from count : ℕ) → from ≤ k → k < from + count → List·Memᴰ k (numbers from count)
 unfolding numbers
@@ -168,7 +168,9 @@ module _ (N : Network) where
   -- an end that is not open is an end of a line of the file
   pub closed-end : (e : End) → isOpen N e ≡ false → (1 ≤ e .line) × (e .line ≤ length (N .lines)) × ((e ≡ end1 (e .line)) ⊎ (e ≡ end2 (e .line)))
   unfolding state
-  closed-end e c = let t = line-there (N .lines) (e .line) (e .side) c in (t .0, t .1, side (e .line) (e .side) c)
+  closed-end e c =
+      let t = numbered-there (λ (l : Line). not (eqb (stateAt l (e .side)) 2)) (N .lines) noLine (ap not (noLine-open (e .side))) (e .line) (ap not c) in
+      (t .0, t .1, side (e .line) (e .side) c)
     where
       side : (l s : ℕ) → eqb (stateAt (numbered noLine (N .lines) l) s) 2 ≡ false → (_≡_ {A = End} (record { line = l; side = s }) (end1 l)) ⊎ (_≡_ {A = End} (record { line = l; side = s }) (end2 l))
       side l zero h = absurd (true≢false h)

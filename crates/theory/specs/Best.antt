@@ -1,0 +1,94 @@
+-- Demand 3 of the defined search, for every accepted file.
+use Prim.Native.Nat.{ℕ, zero, suc, _+_, _≤_, _<_}
+use mathlib.Core.Path.{_≡_, refl, sym, ap, _∙_, subst}
+use mathlib.Core.Bool.{Bool, true, false, not}
+use mathlib.Core.Logic.{⊎-elim}
+use mathlib.Core.List.{List, [], _∷_, _++_, Sublistᴰ, Sublistᴰ·slnil, Sublistᴰ·cons, Sublistᴰ·cons-cons, List·Memᴰ, List·Memᴰ·head, List·Memᴰ·tail}
+use native.Mathlib.Omega.{arith}
+use lib.ListN.{length}
+use lib.Dec.{eqb}
+use borrow.Author.Tests.{not-true, not-false}
+use Rattle.model.specs.Lists.{numbers, numbered}
+use Rattle.model.specs.Answer.{given}
+use Rattle.model.specs.Network.{Network, Place, noPlace, networkOf}
+use Rattle.model.specs.Paths.{state, isOpen}
+use Rattle.model.specs.Rules.{radial, accepted}
+use Rattle.model.specs.Sets.{placeNumbers, placeAt, allowed, setTotal, saving, allowedSets, allowedCount}
+use Rattle.model.specs.Walk.{walk, search}
+use Rattle.model.specs.Demand.{AllowedSet, Answered}
+use Rattle.savings.specs.Breakers.{endAt, Valid}
+use Rattle.savings.specs.Totals.{setTotal-bound}
+use Rattle.savings.specs.Allowed.{allowed-prefix, allowed-few, allowed-none}
+use Rattle.walks.specs.Order.{numbers-rising}
+use Rattle.walks.specs.Claims.{Asks, Fine, Answers}
+use Rattle.walks.specs.Answer.{walk-answers}
+use Rattle.theory.specs.Reading.{All, PlaceFits, Read, in-turn, network-read}
+use Rattle.theory.specs.Ends.{numbers-in}
+use Rattle.theory.specs.Radial.{Rules, radial-rules, numbered-in}
+use Rattle.theory.specs.Forest.{tree}
+
+-- what acceptance of a file's bytes gives
+pub record Accepted (N : Network) : Type 0 where
+  pub read : Read N
+  pub rules : Rules N
+
+pub accepted-is : (file : List ℕ) (N : Network) → accepted file ≡ given N → Accepted N
+unfolding accepted
+accepted-is file N h =
+    in-turn (networkOf file) (λ M. radial M) N h (λ M e k.
+    let r = radial-rules M N k in
+    subst Accepted (r .1) (record { read = network-read file M e; rules = r .0 }))
+
+-- every place of a set is on an end that is not open, where every place of the list is that the set is drawn from
+valid-part : (N : Network) {S places : List ℕ} → Sublistᴰ S places → ((p : ℕ) → List·Memᴰ p places → isOpen N (endAt N p) ≡ false) → Valid N S
+valid-part N Sublistᴰ·slnil h = tt
+valid-part N (Sublistᴰ·cons s) h = valid-part N s (λ p m. h p (List·Memᴰ·tail m))
+valid-part N (Sublistᴰ·cons-cons {a = p} e s) h = (h p (List·Memᴰ·head e), valid-part N s (λ q m. h q (List·Memᴰ·tail m)))
+
+module _ (N : Network) (a : Accepted N) where
+  -- a place is on a plain end
+  place-closed : (p : ℕ) → List·Memᴰ p (placeNumbers N) → isOpen N (endAt N p) ≡ false
+  unfolding placeNumbers placeAt state
+  place-closed p m =
+      let i = numbers-in p 1 (length (N .places)) m in
+      ap (λ n. eqb n 2) (numbered-in (PlaceFits (N .lines) (length (N .lines))) (N .places) noPlace (a .read .places) p (i .0) (omega (arith, i .1)) .plain)
+
+  pub set-valid : {S : List ℕ} → Sublistᴰ S (placeNumbers N) → Valid N S
+  set-valid s = valid-part N s place-closed
+
+  asks : Asks (λ S. setTotal N S) (λ S. allowed N S) (λ p. saving N p) (N .head .adds) (placeNumbers N)
+  asks = record {
+    none = allowed-none N (a .rules .series);
+    few = allowed-few N;
+    part = λ S T s h. allowed-prefix N S T (set-valid s) h;
+    saves = λ S T s h. setTotal-bound N (tree N (a .read) (a .rules)) S T (set-valid s);
+  }
+
+  answers : Answers (N .head .visits) (λ S. setTotal N S) (λ S. allowed N S) (N .head .adds) (placeNumbers N) (search N)
+  unfolding search placeNumbers
+  answers = walk-answers (N .head .visits) (λ S. setTotal N S) (λ S. allowed N S) (λ p. saving N p) (N .head .adds) (placeNumbers N) (numbers-rising 1 (length (N .places))) asks
+
+  fine : {S : List ℕ} → AllowedSet N S → Fine (λ S. allowed N S) (placeNumbers N) S
+  fine x = (x .places, x .allows)
+
+  allowed-set : {S : List ℕ} → Fine (λ S. allowed N S) (placeNumbers N) S → AllowedSet N S
+  allowed-set x = record { places = x .0; allows = x .1 }
+
+  -- demand 3 of the defined search
+  pub search-answered : Answered N (not (search N .spent)) (search N .members) (search N .best) (search N .visits)
+  unfolding allowedCount allowedSets
+  search-answered = record {
+    isAllowed = allowed-set (answers .allows);
+    hasTotal = answers .exact;
+    walkBest = refl;
+    walkVisits = refl;
+    visitsAllowed = answers .counted;
+    visitsLimited = answers .limited;
+    walkFinished = refl;
+    finishes = λ h. ap not (answers .finishes h);
+    spentAtLimit = λ h. answers .spentAtLimit (not-false (search N .spent) h);
+    least = λ f T x.
+        let l = answers .least (not-true (search N .spent) f) T (fine x) in
+        (λ e U y. l .0 e U (fine y), λ h. l .1 (λ U y. h U (allowed-set y)));
+    firstOfLeast = λ f T x e. answers .firstOfLeast (not-true (search N .spent) f) T (fine x) e;
+  }
