@@ -6,12 +6,14 @@ use mathlib.Core.Path.{_≡_, refl, sym, ap, _∙_, subst}
 use mathlib.Core.Bool.{Bool, true, false}
 use mathlib.Core.List.{List, [], _∷_, map}
 use native.Mathlib.Omega.{arith}
-use lib.ListN.{length, getD, set, length-set}
+use lib.Dec.{leb}
+use lib.ListN.{length, getD, set, length-set, take}
 use Rattle.model.specs.Lists.{sum, keep, numbers, numbered, renumbered}
 use Rattle.model.specs.Network.{Network, Station, Line, Place, noLine}
 use Rattle.model.specs.Paths.{End, stationNumbers, lineNumbers, noStation, customersOf}
 use Rattle.model.specs.Outage.{passes, customersBehind, tripped, impact, outageAmount, total, figure}
 use Rattle.model.specs.Sets.{placeAt, lineWithBreaker, withBreaker, withBreakers, setTotal, saving}
+use Rattle.model.specs.Walk.{insert, falling, largest}
 use Rattle.theory.specs.Reading.{All, all-getD, Read, StationFits, LineFits, Within}
 
 -- ── lists ──
@@ -136,3 +138,33 @@ setTotal-size N s S = total-size (withBreakers N S) (breakers-sized S N s)
 pub saving-size : (N : Network) → Sized N → (p : ℕ) → saving N p ≤ 7864320000000000
 unfolding saving
 saving-size N s p = omega (arith, total-size N s)
+
+-- the sum of the `r` largest of values up to `most`
+insert-most : (most x : ℕ) (xs : List ℕ) → x ≤ most → All (λ y. y ≤ most) xs → All (λ y. y ≤ most) (insert x xs)
+unfolding insert
+insert-most most x [] h a = (h, tt)
+insert-most most x (y ∷ ys) h a = go (leb y x) (insert-most most x ys h (a .1))
+  where
+    go : (b : Bool) → All (λ y. y ≤ most) (insert x ys) → All (λ y. y ≤ most) (elim b as (λ z. List ℕ) [ true ↦ x ∷ y ∷ ys | false ↦ y ∷ insert x ys ])
+    go true r = (h, a)
+    go false r = (a .0, r)
+
+falling-most : (most : ℕ) (xs : List ℕ) → All (λ y. y ≤ most) xs → All (λ y. y ≤ most) (falling xs)
+unfolding falling
+falling-most most [] a = tt
+falling-most most (x ∷ xs) a = insert-most most x (falling xs) (a .0) (falling-most most xs (a .1))
+
+take-most : (most r : ℕ) (xs : List ℕ) → All (λ y. y ≤ most) xs → sum (take r xs) ≤ r * most
+unfolding sum
+take-most most zero xs a = omega arith
+take-most most (suc r) [] a = omega arith
+take-most most (suc r) (x ∷ xs) a = omega (arith, a .0, take-most most r xs (a .1))
+
+-- the savings that the bound of the search adds up
+pub largest-size : (N : Network) → Sized N → (r : ℕ) (places : List ℕ) → largest r (map (λ p. saving N p) places) ≤ r * 7864320000000000
+unfolding largest
+largest-size N s r places = take-most 7864320000000000 r (falling (map (λ p. saving N p) places)) (falling-most 7864320000000000 (map (λ p. saving N p) places) (each places))
+  where
+    each : (ps : List ℕ) → All (λ y. y ≤ 7864320000000000) (map (λ p. saving N p) ps)
+    each [] = tt
+    each (p ∷ ps) = (saving-size N s p, each ps)
