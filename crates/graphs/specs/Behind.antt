@@ -36,7 +36,7 @@ behind same next es c (suc k) e v = c v + sumOver (λ j. onto (same j e) (next j
 
 -- ── a test of equality ──
 module _ {A : Type 0} {same : A → A → Bool} (is : (x y : A) → (same x y ≡ true) ↔ (x ≡ y)) where
-  same-false : (x y : A) → same x y ≡ false → x ≢ y
+  pub same-false : (x y : A) → same x y ≡ false → x ≢ y
   same-false x y e q = true≢false (sym (is x y .1 q) ∙ e)
 
   pub same-dec : Discrete A
@@ -46,7 +46,7 @@ module _ {A : Type 0} {same : A → A → Bool} (is : (x y : A) → (same x y �
       go true e = yes (is x y .0 e)
       go false e = no (same-false x y e)
 
-  same-not : (x y : A) → x ≢ y → same x y ≡ false
+  pub same-not : (x y : A) → x ≢ y → same x y ≡ false
   same-not x y d = go (same x y) refl
     where
       go : (b : Bool) → same x y ≡ b → b ≡ false

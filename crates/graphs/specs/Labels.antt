@@ -21,10 +21,10 @@ pub record Labels {N E : Type 0} (In : N → Type 0) (J : Graph N E) (lab : N �
 abbrev pub relabel : ℕ → ℕ → ℕ → ℕ
 relabel x y k = cond (eqb k x) y k
 
-relabel-same : (x y k : ℕ) → k ≡ x → relabel x y k ≡ y
+pub relabel-same : (x y k : ℕ) → k ≡ x → relabel x y k ≡ y
 relabel-same x y k e = rw (eq-eqb k x e)
 
-relabel-other : (x y k : ℕ) → k ≢ x → relabel x y k ≡ k
+pub relabel-other : (x y k : ℕ) → k ≢ x → relabel x y k ≡ k
 relabel-other x y k d = rw (ne-eqb k x d)
 
 module _ {N E : Type 0} {In : N → Type 0} {J : Graph N E} where

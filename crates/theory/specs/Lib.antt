@@ -4,5 +4,7 @@ pub mod Ends
 pub mod Series
 pub mod Radial
 pub mod Forest
+pub mod Labels
+pub mod Behind
 pub mod Best
 pub mod TextSizes

@@ -90,7 +90,7 @@ module _ (N : Network) (d : Read N) where
   line-fits l a b = numbered-in (LineFits (length (N .stations))) (N .lines) noLine (d .lines) l a b
 
   -- the station of an end of a line of the file is a station of the file
-  station-in : (e : End) → 1 ≤ e .line → e .line ≤ length (N .lines) → In N (station (stationAt N e))
+  pub station-in : (e : End) → 1 ≤ e .line → e .line ≤ length (N .lines) → In N (station (stationAt N e))
   unfolding stationAt
   station-in e a b = go (eqb (e .side) 1)
     where
@@ -106,7 +106,7 @@ module _ (N : Network) (d : Read N) where
   joins-in e u v (out c p q) = let x = closed-end N e c in subst (In N) (sym p) (x .0, x .1)
   joins-in e u v (into c p q) = let x = closed-end N e c in subst (In N) (sym p) (station-in e (x .0) (x .1))
 
-  listed-vertex : (u : Vertex) → In N u → List·Memᴰ u (map (λ s. station s) (stationNumbers N) ++ map (λ l. line l) (lineNumbers N))
+  pub listed-vertex : (u : Vertex) → In N u → List·Memᴰ u (map (λ s. station s) (stationNumbers N) ++ map (λ l. line l) (lineNumbers N))
   unfolding stationNumbers lineNumbers
   listed-vertex (station s) i = Memᴰ·append-left _ (Memᴰ·map (λ s. station s) (in-numbers s 1 (length (N .stations)) (i .0) (omega (arith, i .1))))
   listed-vertex (line l) i = Memᴰ·append-right (map (λ s. station s) (numbers 1 (length (N .stations)))) (Memᴰ·map (λ l. line l) (in-numbers l 1 (length (N .lines)) (i .0) (omega (arith, i .1))))
@@ -121,34 +121,40 @@ module _ (N : Network) (d : Read N) where
   root-in (station h) e = numbered-there (λ (s : Station). eqb (s .role) 1) (N .stations) noStation refl h e
   root-in (line l) e = absurd (true≢false (sym e))
 
+  -- a cycle is a path that returns to its start
+  pub cycle-returns : Cyclic (Joins N) → somePathReturns N ≡ true
+  unfolding somePathReturns returnsTo
+  cycle-returns c =
+      let u = c .start in
+      let p = c .first ∷ c .rest in
+      let s = begins (c .round .walk) in
+      any-in (λ v. any (λ es. returnsTo N v es) (paths N v)) u _ (listed-vertex u (joins-in (c .first) u (s .0) (s .1)))
+      (any-in (λ es. returnsTo N u es) p (paths N u) (path-listed (c .round))
+      (sameVertex-is (target N u p) u .1 (walk-target N (c .round .walk))))
+
+  -- a path between two different HV stations joins them
+  pub connected-joined : (h : ℕ) (v : Vertex) → Root N (station h) → Root N v → sameVertex v (station h) ≡ false → Connected (Joins N) (station h) v → someJoined N ≡ true
+  unfolding someJoined joinsAnother atHV stationNumbers
+  connected-joined h v p q e c =
+      let i = root-in (station h) p in
+      any-in (λ h. isHV N h && any (λ es. joinsAnother N h es) (paths N (station h))) h _ (in-numbers h 1 (length (N .stations)) (i .0) (omega (arith, i .1)))
+      (λ k. p k && any-in (λ es. joinsAnother N h es) (c .0) (paths N (station h)) (path-listed (c .1))
+      ((λ j. atHV N (at-target j) && not (sameVertex (at-target j) (station h))) ∙ (λ j. q j && not (e j))) k)
+    where
+      at-target : target N (station h) (c .0) ≡ v
+      at-target = walk-target N (c .1 .walk)
+
   module _ (r : Rules N) where
     -- rule 6
     pub no-cycle : ¬ Cyclic (Joins N)
-    unfolding somePathReturns returnsTo
-    no-cycle c =
-        let u = c .start in
-        let p = c .first ∷ c .rest in
-        let s = begins (c .round .walk) in
-        true≢false (sym (any-in (λ v. any (λ es. returnsTo N v es) (paths N v)) u _ (listed-vertex u (joins-in (c .first) u (s .0) (s .1)))
-        (any-in (λ es. returnsTo N u es) p (paths N u) (path-listed (c .round))
-        (sameVertex-is (target N u p) u .1 (walk-target N (c .round .walk))))) ∙ r .unreturned)
+    no-cycle c = true≢false (sym (cycle-returns c) ∙ r .unreturned)
 
     -- rule 7
     pub lone : Lone (Joins N) (Root N)
-    unfolding someJoined joinsAnother atHV stationNumbers
+    unfolding atHV
     lone (line l) v p q c = absurd (true≢false (sym p))
     lone (station h) v p q c = go (sameVertex v (station h)) refl
       where
-        es : List End
-        es = c .0
-
-        at-target : target N (station h) es ≡ v
-        at-target = walk-target N (c .1 .walk)
-
         go : (b : Bool) → sameVertex v (station h) ≡ b → station h ≡ v
         go true e = sym (sameVertex-is v (station h) .0 e)
-        go false e =
-            let i = root-in (station h) p in
-            absurd (true≢false (sym (any-in (λ h. isHV N h && any (λ es. joinsAnother N h es) (paths N (station h))) h _ (in-numbers h 1 (length (N .stations)) (i .0) (omega (arith, i .1)))
-            (λ k. p k && any-in (λ es. joinsAnother N h es) es (paths N (station h)) (path-listed (c .1))
-            ((λ j. atHV N (at-target j) && not (sameVertex (at-target j) (station h))) ∙ (λ j. q j && not (e j))) k)) ∙ r .unjoined))
+        go false e = absurd (true≢false (sym (connected-joined h v p q e c) ∙ r .unjoined))
