@@ -1,5 +1,5 @@
--- "Seen from the HV station, the customers behind a station are its own plus those behind each line that leaves it, and behind a
--- line are those behind its far station, or none if that end is open": this agrees with `customersBehind`.
+-- The customers behind an end by recursion down the tree, from station to line and from line to far station. They are the
+-- customers of all stations whose path to the HV station passes the end.
 use Prim.Native.Nat.{ℕ, zero, suc, _+_, _-_, _≤_}
 use mathlib.Core.Path.{_≡_, refl, sym, ap, _∙_, subst}
 use mathlib.Core.Bool.{Bool, true, false, not, _&&_, _||_, true≢false}

@@ -4,6 +4,7 @@ pub mod Ends
 pub mod Series
 pub mod Radial
 pub mod Forest
+pub mod Above
 pub mod Labels
 pub mod Behind
 pub mod Best
