@@ -12,7 +12,7 @@ use Rattle.model.specs.Lists.{numbers, numbered}
 use Rattle.model.specs.Answer.{given}
 use Rattle.model.specs.Network.{Network, Place, noPlace, networkOf}
 use Rattle.model.specs.Paths.{state, isOpen}
-use Rattle.model.specs.Rules.{radial, accepted}
+use Rattle.model.specs.Rules.{seriesBroken, radial, accepted}
 use Rattle.model.specs.Sets.{placeNumbers, placeAt, allowed, setTotal, saving, allowedSets, allowedCount}
 use Rattle.model.specs.Walk.{walk, search}
 use Rattle.model.specs.Demand.{AllowedSet, Answered}
@@ -31,13 +31,14 @@ use Rattle.theory.specs.Forest.{tree}
 pub record Accepted (N : Network) : Type 0 where
   pub read : Read N
   pub rules : Rules N
+  pub series : seriesBroken N ≡ false
 
 pub accepted-is : (file : List ℕ) (N : Network) → accepted file ≡ given N → Accepted N
 unfolding accepted
 accepted-is file N h =
     in-turn (networkOf file) (λ M. radial M) N h (λ M e k.
     let r = radial-rules M N k in
-    subst Accepted (r .1) (record { read = network-read file M e; rules = r .0 }))
+    subst Accepted (r .2) (record { read = network-read file M e; rules = r .0; series = r .1 }))
 
 -- every place of a set is on an end that is not open, where every place of the list is that the set is drawn from
 valid-part : (N : Network) {S places : List ℕ} → Sublistᴰ S places → ((p : ℕ) → List·Memᴰ p places → isOpen N (endAt N p) ≡ false) → Valid N S
@@ -58,7 +59,7 @@ module _ (N : Network) (a : Accepted N) where
 
   asks : Asks (λ S. setTotal N S) (λ S. allowed N S) (λ p. saving N p) (N .head .adds) (placeNumbers N)
   asks = record {
-    none = allowed-none N (a .rules .series);
+    none = allowed-none N (a .series);
     few = allowed-few N;
     part = λ S T s h. allowed-prefix N S T (set-valid s) h;
     saves = λ S T s h. setTotal-bound N (tree N (a .read) (a .rules)) S T (set-valid s);

@@ -22,13 +22,13 @@ use Rattle.theory.specs.Sizes.{numbered-has}
 use Rattle.theory.specs.Ends.{any-in, any-out, numbered-there, in-numbers, numbers-in, sameVertex-is, end-discrete, Joins, out, into, joins-edges, joins-closed, closed-end, walk-target, paths-are}
 
 -- ── the rules, one by one ──
+-- the rules 4 to 8: what makes a network a forest with an HV station in each tree
 pub record Rules (N : Network) : Type 0 where
   pub connected : (l : ℕ) → 1 ≤ l → l ≤ length (N .lines) → bothOpen N l ≡ false
   pub protected : (l : ℕ) → 1 ≤ l → l ≤ length (N .lines) → unprotected N l ≡ false
   pub unreturned : somePathReturns N ≡ false
   pub unjoined : someJoined N ≡ false
   pub supplied : (s : ℕ) → 1 ≤ s → s ≤ length (N .stations) → isSupplied N s ≡ true
-  pub series : seriesBroken N ≡ false
 
 unless-given : (b : Bool) (refuse next : Answer Network) (M : Network) → (refuse ≡ given M → ⊥) → unless b refuse next ≡ given M → (b ≡ false) × (next ≡ given M)
 unfolding unless
@@ -47,7 +47,7 @@ unlessSome-given test (k ∷ ks) refuse next M n h = go (test k) refl h (λ g. u
     go true q g ih = absurd (n k g)
     go false q g ih = let r = ih g in ((λ j m. ⊎-elim (λ p. ap test p ∙ q) (λ i. r .0 j i) (List·Memᴰ·cases-cons m)), r .1)
 
-pub radial-rules : (N M : Network) → radial N ≡ given M → Rules N × (N ≡ M)
+pub radial-rules : (N M : Network) → radial N ≡ given M → Rules N × (seriesBroken N ≡ false) × (N ≡ M)
 unfolding radial stationNumbers lineNumbers
 radial-rules N M h =
     let r4 = unlessSome-given (λ l. bothOpen N l) (numbers 1 (length (N .lines))) _ _ M (λ k. not-given 4 _ M) h in
@@ -62,8 +62,8 @@ radial-rules N M h =
         unreturned = r6 .0;
         unjoined = r7 .0;
         supplied = λ s a b. not-false (isSupplied N s) (r8 .0 s (in-numbers s 1 (length (N .stations)) a (omega arith)));
-        series = r9 .0;
       },
+      r9 .0,
       given-eq N M (r9 .1),
     )
 
