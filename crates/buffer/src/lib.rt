@@ -1,0 +1,102 @@
+// A network in a buffer of 5,129 numbers: the head's numbers at 0 to 7, the number of places at 8, then 2 numbers a station
+// from 9 on, 5 a line from 1033 on and 4 a place from 4873 on. Stations, lines, ends and places have the file's numbers, from 1.
+ghost use mathlib.Core.Path.{_≡_};
+ghost use Prim.Native.Nat.{ℕ, _≤_};
+ghost use lib.ListN.{length};
+ghost use Rattle.model.specs.Paths.{state, stationAt, isHV, customersOf};
+ghost use Rattle.model.specs.Sets.{placeAt};
+ghost use Rattle.buffer.specs.Buffer.{networkIn};
+ghost use Rattle.buffer.specs.Fits.{Fits, StationThere, LineThere, EndThere, PlaceThere, lineIn, endIn};
+
+// How many stations there are.
+pub fn stations(net: &[u64; 5129]) -> usize
+    ensures { λ r. ⌜ r ≡ length (networkIn (now (net .entry)) .stations) ⌝ }
+{
+    net[0] as usize
+}
+
+// How many lines there are.
+pub fn lines(net: &[u64; 5129]) -> usize
+    ensures { λ r. ⌜ r ≡ length (networkIn (now (net .entry)) .lines) ⌝ }
+{
+    net[1] as usize
+}
+
+// How many places there are.
+pub fn places(net: &[u64; 5129]) -> usize
+    ensures { λ r. ⌜ r ≡ length (networkIn (now (net .entry)) .places) ⌝ }
+{
+    net[8] as usize
+}
+
+// Whether a station is an HV station.
+pub fn is_hv(net: &[u64; 5129], station: usize) -> bool
+    requires { ⌜ StationThere (now net) station ⌝ }
+    ensures { λ r. ⌜ r ≡ isHV (networkIn (now (net .entry))) station ⌝ }
+{
+    net[2 * station + 7] == 1
+}
+
+// The customers of a station.
+pub fn customers(net: &[u64; 5129], station: usize) -> u64
+    requires { ⌜ StationThere (now net) station ⌝ }
+    ensures { λ r. ⌜ r ≡ customersOf (networkIn (now (net .entry))) station ⌝ }
+{
+    net[2 * station + 8]
+}
+
+// The weight of a line.
+pub fn weight(net: &[u64; 5129], line: usize) -> u64
+    requires { ⌜ LineThere (now net) line ⌝ }
+    ensures { λ r. ⌜ r ≡ lineIn (now (net .entry)) line .weight ⌝ }
+{
+    net[5 * line + 1028]
+}
+
+// The state of an end, 1 or 2, of a line: 0 plain, 1 breaker, 2 open.
+pub fn end_state(net: &[u64; 5129], line: usize, side: usize) -> u64
+    requires { ⌜ EndThere (now net) line side ⌝ }
+    ensures { λ r. ⌜ r ≡ state (networkIn (now (net .entry))) (endIn line side) ⌝ }
+{
+    net[5 * line + side + 1030]
+}
+
+// The station that an end, 1 or 2, of a line is at.
+pub fn end_station(net: &[u64; 5129], line: usize, side: usize) -> usize
+    requires { ⌜ EndThere (now net) line side ⌝ }
+    ensures { λ r. ⌜ r ≡ stationAt (networkIn (now (net .entry))) (endIn line side) ⌝ }
+{
+    net[5 * line + side + 1028] as usize
+}
+
+// The line of a place.
+pub fn place_line(net: &[u64; 5129], place: usize) -> usize
+    requires { ⌜ PlaceThere (now net) place ⌝ }
+    ensures { λ r. ⌜ r ≡ placeAt (networkIn (now (net .entry))) place .line ⌝ }
+{
+    net[4 * place + 4869] as usize
+}
+
+// The end, 1 or 2, of a place.
+pub fn place_side(net: &[u64; 5129], place: usize) -> usize
+    requires { ⌜ PlaceThere (now net) place ⌝ }
+    ensures { λ r. ⌜ r ≡ placeAt (networkIn (now (net .entry))) place .side ⌝ }
+{
+    net[4 * place + 4870] as usize
+}
+
+// The cost of a place.
+pub fn place_cost(net: &[u64; 5129], place: usize) -> u64
+    requires { ⌜ PlaceThere (now net) place ⌝ }
+    ensures { λ r. ⌜ r ≡ placeAt (networkIn (now (net .entry))) place .cost ⌝ }
+{
+    net[4 * place + 4871]
+}
+
+// The hours of a place.
+pub fn place_hours(net: &[u64; 5129], place: usize) -> u64
+    requires { ⌜ PlaceThere (now net) place ⌝ }
+    ensures { λ r. ⌜ r ≡ placeAt (networkIn (now (net .entry))) place .hours ⌝ }
+{
+    net[4 * place + 4872]
+}
