@@ -69,7 +69,7 @@ module _ (M N : Network) (s : Same M N) where
   unfolding isHV
   isHV-same t = λ i. eqb (numbered noStation (s .stations i) t .role) 1
 
-  atHV-same : (v : Vertex) → atHV M v ≡ atHV N v
+  pub atHV-same : (v : Vertex) → atHV M v ≡ atHV N v
   unfolding atHV
   atHV-same (station t) = isHV-same t
   atHV-same (line l) = refl

@@ -94,7 +94,7 @@ module _ (N : Network) (d : Read N) (r : Rules N) where
   end-first-once e p q = edge-one-way p q
 
   -- ── a breaker on every line's path ──
-  state-high : (e : End) → isOpen N e ≡ false → state N e ≤ 2
+  pub state-high : (e : End) → isOpen N e ≡ false → state N e ≤ 2
   unfolding state stateAt
   state-high e c =
       let x = closed-end N e c in

@@ -7,5 +7,6 @@ pub mod Forest
 pub mod Above
 pub mod Labels
 pub mod Behind
+pub mod With
 pub mod Best
 pub mod TextSizes

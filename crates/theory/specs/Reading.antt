@@ -145,14 +145,17 @@ pub record LineFits (stations : ℕ) (l : Line) : Type 0 where
   pub state1 : Within 0 2 (l .state1)
   pub state2 : Within 0 2 (l .state2)
 
-pub record PlaceFits (ls : List Line) (lines : ℕ) (p : Place) : Type 0 where
+pub record PlaceFits (lines : ℕ) (p : Place) : Type 0 where
   pub line : Within 1 lines (p .line)
   pub side : Within 1 2 (p .side)
   pub cost : Within 0 1000000 (p .cost)
   pub hours : Within 0 1000 (p .hours)
-  pub plain : stateAt (numbered noLine ls (p .line)) (p .side) ≡ 0
 
--- what a network that is read has
+-- a place is on a plain end
+abbrev pub OnPlain : List Line → Place → Type 0
+OnPlain ls p = stateAt (numbered noLine ls (p .line)) (p .side) ≡ 0
+
+-- what a network that is read has, and has still when breakers are added
 pub record Read (N : Network) : Type 0 where
   pub head : HeadFits (N .head)
   pub stationCount : length (N .stations) ≡ N .head .stations
@@ -160,7 +163,7 @@ pub record Read (N : Network) : Type 0 where
   pub placeCount : length (N .places) ≤ 64
   pub stations : All StationFits (N .stations)
   pub lines : All (LineFits (length (N .stations))) (N .lines)
-  pub places : All (PlaceFits (N .lines) (length (N .lines))) (N .places)
+  pub places : All (PlaceFits (length (N .lines))) (N .places)
 
 head-fits : (vs : List ℕ) → Fits 0 0 rowN vs → HeadFits (headOf vs)
 unfolding rowN headOf largestOf
@@ -198,7 +201,7 @@ line-fits s l vs f = record {
 }
 
 place-fits : (stations lines : ℕ) (ls : List Line) (n : ℕ) (before : Place) (vs : List ℕ) → Fits stations lines rowP vs → wellPlaced ls n before (placeOf vs) ≡ true
-    → PlaceFits ls lines (placeOf vs) × (n < 64)
+    → PlaceFits lines (placeOf vs) × OnPlain ls (placeOf vs) × (n < 64)
 unfolding rowP placeOf largestOf wellPlaced
 place-fits s l ls n before vs f w =
     let p = placeOf vs in
@@ -209,33 +212,37 @@ place-fits s l ls n before vs f w =
         side = field-within s l rowP vs f 1 (omega arith);
         cost = field-within s l rowP vs f 2 (omega arith);
         hours = field-within s l rowP vs f 3 (omega arith);
-        plain = eqb-true _ _ (b .1);
       },
+      eqb-true _ _ (b .1),
       ltb-true n 64 (a .0),
     )
 
 places-fit : (h : Head) (ls : List Line) (i n : ℕ) (before : Place) (rs : List Record) (ps : List Place) → n ≤ 64 → readPlaces h ls i n before rs ≡ given ps
-    → (n + length ps ≤ 64) × All (PlaceFits ls (h .lines)) ps
+    → (n + length ps ≤ 64) × All (PlaceFits (h .lines)) ps × All (OnPlain ls) ps
 unfolding readPlaces kindP
-places-fit h ls i n before [] ps k q = subst (λ ps. (n + length ps ≤ 64) × All (PlaceFits ls (h .lines)) ps) (given-eq [] ps q) (omega arith, tt)
+places-fit h ls i n before [] ps k q = subst (λ ps. (n + length ps ≤ 64) × All (PlaceFits (h .lines)) ps × All (OnPlain ls) ps) (given-eq [] ps q) (omega arith, tt, tt)
 places-fit h ls i n before (r ∷ rs) ps k q =
     in-turn (readRecord (h .stations) (h .lines) i kindP r) _ ps q (λ vs e q₁.
     go (placeOf vs) (wellPlaced ls n before (placeOf vs)) refl
     (λ w. place-fits (h .stations) (h .lines) ls n before vs (record-fits (h .stations) (h .lines) i kindP r vs e) w)
     (λ qs l. places-fit h ls (i + 1) (n + 1) (placeOf vs) rs qs l) q₁)
   where
-    go : (p : Place) (b : Bool) → wellPlaced ls n before p ≡ b → (wellPlaced ls n before p ≡ true → PlaceFits ls (h .lines) p × (n < 64))
-        → ((qs : List Place) → n + 1 ≤ 64 → readPlaces h ls (i + 1) (n + 1) p rs ≡ given qs → (n + 1 + length qs ≤ 64) × All (PlaceFits ls (h .lines)) qs)
+    go : (p : Place) (b : Bool) → wellPlaced ls n before p ≡ b → (wellPlaced ls n before p ≡ true → PlaceFits (h .lines) p × OnPlain ls p × (n < 64))
+        → ((qs : List Place) → n + 1 ≤ 64 → readPlaces h ls (i + 1) (n + 1) p rs ≡ given qs → (n + 1 + length qs ≤ 64) × All (PlaceFits (h .lines)) qs × All (OnPlain ls) qs)
         → _≡_ {A = Answer (List Place)} (elim b as (λ x. Answer (List Place)) [ true ↦ readPlaces h ls (i + 1) (n + 1) p rs >>= λ ps. given (p ∷ ps) | false ↦ refused 3 i ]) (given ps)
-        → (n + length ps ≤ 64) × All (PlaceFits ls (h .lines)) ps
+        → (n + length ps ≤ 64) × All (PlaceFits (h .lines)) ps × All (OnPlain ls) ps
     go p true w fit ih q₁ =
         in-turn (readPlaces h ls (i + 1) (n + 1) p rs) _ ps q₁ (λ qs d q₂.
         let f = fit w in
-        let t = ih qs (omega (arith, f .1)) d in
-        subst (λ ps. (n + length ps ≤ 64) × All (PlaceFits ls (h .lines)) ps) (given-eq (p ∷ qs) ps q₂) (omega (arith, t .0), (f .0, t .1)))
+        let t = ih qs (omega (arith, f .2)) d in
+        subst (λ ps. (n + length ps ≤ 64) × All (PlaceFits (h .lines)) ps × All (OnPlain ls) ps) (given-eq (p ∷ qs) ps q₂) (omega (arith, t .0), (f .0, t .1), (f .1, t .2)))
     go p false w fit ih q₁ = absurd (not-given 3 i ps q₁)
 
-after-head : (h : Head) (rs : List Record) (N : Network) → HeadFits h → readAfterHead h rs ≡ given N → Read N
+-- the same, with every place on a plain end
+abbrev pub ReadPlain : Network → Type 0
+ReadPlain N = Read N × All (OnPlain (N .lines)) (N .places)
+
+after-head : (h : Head) (rs : List Record) (N : Network) → HeadFits h → readAfterHead h rs ≡ given N → ReadPlain N
 unfolding readAfterHead kindS kindL
 after-head h rs N f q =
     in-turn (readRecords (h .stations) (h .lines) 2 kindS (h .stations) rs) _ N q (λ s sq q₁.
@@ -246,26 +253,29 @@ after-head h rs N f q =
     let pf = places-fit h (map lineOf (l .0)) (2 + h .stations + h .lines) 0 noPlace (l .1) ps (omega arith) pq in
     let n : length (map stationOf (s .0)) ≡ h .stations = length-map (s .0) stationOf ∙ ss .0 in
     let m : length (map lineOf (l .0)) ≡ h .lines = length-map (l .0) lineOf ∙ ls .0 in
-    subst Read (given-eq (record { head = h; stations = map stationOf (s .0); lines = map lineOf (l .0); places = ps }) N q₃) (record {
-      head = f;
-      stationCount = n;
-      lineCount = m;
-      placeCount = omega (arith, pf .0);
-      stations = all-map (Fits (h .stations) (h .lines) rowS) StationFits stationOf (λ vs g. station-fits (h .stations) (h .lines) vs g) (s .0) (ss .1);
-      lines = subst (λ k. All (LineFits k) (map lineOf (l .0))) (sym n)
-          (all-map (Fits (h .stations) (h .lines) rowL) (LineFits (h .stations)) lineOf (λ vs g. line-fits (h .stations) (h .lines) vs g) (l .0) (ls .1));
-      places = subst (λ k. All (PlaceFits (map lineOf (l .0)) k) ps) (sym m) (pf .1);
-    }))))
+    subst ReadPlain (given-eq (record { head = h; stations = map stationOf (s .0); lines = map lineOf (l .0); places = ps }) N q₃) (
+      record {
+        head = f;
+        stationCount = n;
+        lineCount = m;
+        placeCount = omega (arith, pf .0);
+        stations = all-map (Fits (h .stations) (h .lines) rowS) StationFits stationOf (λ vs g. station-fits (h .stations) (h .lines) vs g) (s .0) (ss .1);
+        lines = subst (λ k. All (LineFits k) (map lineOf (l .0))) (sym n)
+            (all-map (Fits (h .stations) (h .lines) rowL) (LineFits (h .stations)) lineOf (λ vs g. line-fits (h .stations) (h .lines) vs g) (l .0) (ls .1));
+        places = subst (λ k. All (PlaceFits k) ps) (sym m) (pf .1);
+      },
+      pf .2,
+    ))))
 
-file-read : (rs : List Record) (N : Network) → readFile rs ≡ given N → Read N
+file-read : (rs : List Record) (N : Network) → readFile rs ≡ given N → ReadPlain N
 unfolding readFile kindN
 file-read [] N q = absurd (not-given 1 1 N q)
 file-read (r ∷ rs) N q = in-turn (readRecord 0 0 1 kindN r) _ N q (λ vs e k. after-head (headOf vs) rs N (head-fits vs (record-fits 0 0 1 kindN r vs e)) k)
 
-pub network-read : (file : List ℕ) (N : Network) → networkOf file ≡ given N → Read N
+pub network-read : (file : List ℕ) (N : Network) → networkOf file ≡ given N → ReadPlain N
 unfolding networkOf
 network-read file N q = go (leb (length file) 32768) q
   where
-    go : (b : Bool) → _≡_ {A = Answer Network} (elim b as (λ x. Answer Network) [ true ↦ readFile (recordsOf file) | false ↦ refused 1 0 ]) (given N) → Read N
+    go : (b : Bool) → _≡_ {A = Answer Network} (elim b as (λ x. Answer Network) [ true ↦ readFile (recordsOf file) | false ↦ refused 1 0 ]) (given N) → ReadPlain N
     go true k = file-read (recordsOf file) N k
     go false k = absurd (not-given 1 0 N k)

@@ -52,7 +52,7 @@ module _ {A : Type 0} (w : A → ℕ) (other x : A) where
   renumbered-measure xs (suc k) zero e = refl
   renumbered-measure xs (suc k) (suc j) e = set-measure xs k j e
 
-renumbered-length : {A : Type 0} (xs : List A) (k : ℕ) (x : A) → length (renumbered xs k x) ≡ length xs
+pub renumbered-length : {A : Type 0} (xs : List A) (k : ℕ) (x : A) → length (renumbered xs k x) ≡ length xs
 unfolding renumbered
 renumbered-length xs zero x = refl
 renumbered-length xs (suc k) x = length-set xs k x

@@ -105,7 +105,7 @@ module _ (N : Network) (a : Accepted N) where
   unfolding lineB placeAt sum
   lineB-length p = line-width 66 (placeAt N p .line ∷ placeAt N p .side ∷ []) (2 ∷ 0 ∷ []) (omega (arith, bounds .0), (omega (arith, bounds .1), tt))
     where
-      each : (ps : List Place) → All (PlaceFits (N .lines) (length (N .lines))) ps → All (λ (q : Place). (q .line ≤ 768) × (q .side ≤ 2)) ps
+      each : (ps : List Place) → All (PlaceFits (length (N .lines))) ps → All (λ (q : Place). (q .line ≤ 768) × (q .side ≤ 2)) ps
       each [] f = tt
       each (q ∷ ps) f = ((omega (arith, f .0 .line .high, sized .lineCount), f .0 .side .high), each ps (f .1))
 
