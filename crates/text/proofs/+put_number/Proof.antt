@@ -1,0 +1,143 @@
+use borrow.Author.Needs.{needs}
+use mathlib.Core.Path.{_≡_, refl, sym, ap, _∙_}
+use mathlib.Core.List.{List, []}
+use Prim.Native.Nat.{ℕ, _+_, _/_, _%_, _^_, _≤_, _<_}
+use native.Mathlib.Omega.{arith}
+use lib.ListN.{length, set, length-set}
+use borrow.Fn.Kinds.{In}
+use borrow.Fn.PlainCycle.{Measures, is, falls, and}
+use Rattle.model.specs.Text.{decimal}
+use Rattle.theory.specs.TextSizes.{decimal-length}
+use Rattle.text.proofs.Decimals.{decimal-short, decimal-step, decimal-step-length}
+use Rattle.text.proofs.Over.{over, over-set}
+use Rattle.text.proofs.put_number.Reads as put-number
+use Rattle.text.proofs.put_number.Kinds as put-number-kinds
+use Rattle.text.proofs.+put_number.Lts-put_number as put-number-lts
+use Rattle.text.proofs.+put_number.{statement}
+use Rattle.text.proofs.+put_number.Tie.{close}
+
+-- a number of one digit
+only : (b : List ℕ) (n : ℕ) → n < 10 → 1 ≤ length b → set b 0 (48 + n) ≡ over (decimal n) b
+unfolding over
+only b n k h = over-set [] b b 0 refl refl (48 + n) h ∙ ap (λ (ds : List ℕ). over ds b) (sym (decimal-short n k))
+
+-- the last of several digits: its place is below 20
+place : (n at : ℕ) → 10 ≤ n → n < 10 ^ 20 → at ≡ length (decimal (n / 10)) → (at + 1 ≡ length (decimal n)) × (at < 20)
+place n at k f here = omega (arith, decimal-step-length n k, decimal-length 19 n f)
+
+last : (b d : List ℕ) (n at : ℕ) → 10 ≤ n → at < length b → at ≡ length (decimal (n / 10)) → d ≡ over (decimal (n / 10)) b → set d at (48 + n % 10) ≡ over (decimal n) b
+last b d n at k h here is = over-set (decimal (n / 10)) b d at is here (48 + n % 10) h ∙ ap (λ (ds : List ℕ). over ds b) (sym (decimal-step n k))
+
+abbrev μ-put-number : Measures 1 put-number-kinds.ps ℕ
+μ-put-number κs a = a .1 .0
+
+abbrev put-number-at : ℕ → In 1 put-number-kinds.ps
+put-number-at t =
+    and 1 put-number-kinds.ps (is 1 put-number-kinds.ps μ-put-number t) put-number.Pre
+
+abbrev put-number-below : ℕ → In 1 put-number-kinds.ps
+put-number-below t =
+    and 1 put-number-kinds.ps (falls 1 put-number-kinds.ps _<_ μ-put-number t) put-number.Pre
+
+put-number-cast-buf :
+    (t : ℕ) →
+    put-number-lts.Need-cast-buf
+    (put-number-below t, put-number.Post)
+    (put-number-at t)
+    put-number.Post
+put-number-cast-buf t c = omega arith
+
+put-number-add-buf :
+    (t : ℕ) →
+    put-number-lts.Need-add-buf
+    (put-number-below t, put-number.Post)
+    (put-number-at t)
+    put-number.Post
+put-number-add-buf t c = omega arith
+
+put-number-slice-write-buf : (t : ℕ) → put-number-lts.Need-slice-write-buf (
+  put-number-below t,
+  put-number.Post,
+) (put-number-at t) put-number.Post
+put-number-slice-write-buf t c = omega arith
+
+put-number-put-number-requires : (t : ℕ) → put-number-lts.Need-put-number-requires (
+  put-number-below t,
+  put-number.Post,
+) (put-number-at t) put-number.Post
+put-number-put-number-requires t c κs = (omega arith, search needs)
+
+put-number-cast-buf-2 : (t : ℕ) → put-number-lts.Need-cast-buf-2 (
+  put-number-below t,
+  put-number.Post,
+) (put-number-at t) put-number.Post
+put-number-cast-buf-2 t c = omega arith
+
+put-number-add-buf-2 : (t : ℕ) → put-number-lts.Need-add-buf-2 (
+  put-number-below t,
+  put-number.Post,
+) (put-number-at t) put-number.Post
+put-number-add-buf-2 t c = omega arith
+
+put-number-slice-write-buf-2 : (t : ℕ) → put-number-lts.Need-slice-write-buf-2 (
+  put-number-below t,
+  put-number.Post,
+) (put-number-at t) put-number.Post
+put-number-slice-write-buf-2 t c = omega (arith, place (c .before .before .before .before .before .before .args .n) _ (search needs) (search needs) (c .before .before .put-number .ensures .0))
+
+put-number-add-result : (t : ℕ) → put-number-lts.Need-add-result (
+  put-number-below t,
+  put-number.Post,
+) (put-number-at t) put-number.Post
+put-number-add-result t c = omega arith
+
+put-number-same-length : (t : ℕ) → put-number-lts.Need-same-length (
+  put-number-below t,
+  put-number.Post,
+) (put-number-at t) put-number.Post
+put-number-same-length t c = simp length-set
+
+put-number-returns :
+    (t : ℕ) →
+    put-number-lts.Need-returns
+    (put-number-below t, put-number.Post)
+    (put-number-at t)
+    put-number.Post
+unfolding over
+put-number-returns t c =
+    (sym (ap length (decimal-short (c .before .before .args .n) (omega arith))), only _ _ (search needs) (search needs), omega arith, omega arith)
+
+put-number-same-length-2 : (t : ℕ) → put-number-lts.Need-same-length-2 (
+  put-number-below t,
+  put-number.Post,
+) (put-number-at t) put-number.Post
+put-number-same-length-2 t c = simp length-set (search needs)
+
+put-number-returns-2 : (t : ℕ) → put-number-lts.Need-returns-2 (
+  put-number-below t,
+  put-number.Post,
+) (put-number-at t) put-number.Post
+unfolding over
+put-number-returns-2 t c =
+    let p = place (c .before .before .before .before .before .before .args .n) _ (search needs) (search needs) (c .before .before .put-number .ensures .0) in
+    (p .0, last _ _ _ _ (search needs) (search needs) (c .before .before .put-number .ensures .0) (c .before .before .put-number .ensures .1), omega arith, omega arith)
+
+pub +put-number-spec : {M : Type 1} → statement M
++put-number-spec = close μ-put-number λ t. put-number-lts.spec (
+  put-number-below t,
+  put-number.Post,
+)
+    (put-number-at t)
+    put-number.Post
+    (put-number-cast-buf t)
+    (put-number-add-buf t)
+    (put-number-slice-write-buf t)
+    (put-number-put-number-requires t)
+    (put-number-cast-buf-2 t)
+    (put-number-add-buf-2 t)
+    (put-number-slice-write-buf-2 t)
+    (put-number-add-result t)
+    (put-number-same-length t)
+    (put-number-returns t)
+    (put-number-same-length-2 t)
+    (put-number-returns-2 t)
