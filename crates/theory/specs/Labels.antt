@@ -296,14 +296,15 @@ module _ (N : Network) (d : Read N) where
     λ j. any-in (λ es. atHV N (target N (station s) es)) (j .2 .0) (paths N (station s)) (path-listed N d (j .2 .1)) (ap (λ v. atHV N v) (walk-target N (j .2 .1 .walk)) ∙ j .1),
   )
 
+  -- an HV station is a station of the file
+  pub hv-in : (h : ℕ) → isHV N h ≡ true → In N (station h)
+  unfolding atHV
+  hv-in h p = root-in N d (station h) p
+
   -- all lines are joined
   module _ (labels : List ℕ) (L : Labelled N (length (N .lines)) labels) where
     whole : Labels (In N) (Joins N) (vertexLabel N (length (N .lines)) labels)
     whole = labels-carry (λ e x y j. j .1) (λ e x y j. (closed-end N e (joins-closed N j) .1, j)) (L .tells)
-
-    hv-in : (h : ℕ) → isHV N h ≡ true → In N (station h)
-    unfolding atHV
-    hv-in h p = root-in N d (station h) p
 
     -- rule 6: no path returns
     pub labelled-end : somePathReturns N ≡ false

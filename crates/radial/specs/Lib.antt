@@ -1,0 +1,5 @@
+pub mod Fields
+pub mod First
+pub mod Tests
+pub mod Run
+pub mod Stations
