@@ -1,0 +1,96 @@
+use borrow.Author.Tests.{not-true, not-false}
+use borrow.Author.Needs.{needs}
+use mathlib.Core.Path.{_≡_, refl, sym, ap, _∙_}
+use mathlib.Core.List.{[]}
+use Prim.Native.Nat.{_-_, _≤_}
+use native.Mathlib.Omega.{arith}
+use lib.ListN.{length, getD, drop}
+use Rattle.model.specs.Ranges.{rows, allInRange}
+use Rattle.model.specs.Network.{value}
+use Rattle.reader.proofs.Ranged.{row-short, out-of-range, within-range, no-more}
+use Rattle.reader.proofs.records.in_ranges.Statement.{statement}
+use Rattle.reader.proofs.records.in_ranges.Tie as tie
+use Rattle.reader.proofs.records.in_ranges.Reads as reads
+use Rattle.reader.proofs.records.in_ranges.Lts as lts
+use Rattle.ranges.proofs.in_range.Reads as in-range-reads
+
+abbrev Inv-loop : tie.InvT-loop
+Inv-loop kind numbers stations lines field₀ field-end field =
+    (field-end ≡ length numbers) × (field ≤ field-end)
+    × (allInRange stations lines (value numbers 0) (drop field (getD rows kind [])) (drop field numbers) ≡ allInRange stations lines (value numbers 0) (getD rows kind []) numbers)
+
+abbrev μ-loop : tie.MeasureT-loop
+μ-loop kind numbers stations lines field₀ field-end field = field-end - field
+
+-- src/records.rt:24:5
+loop-holds : tie.Need-loop-holds Inv-loop μ-loop
+loop-holds c = (refl, omega arith, refl)
+
+-- src/records.rt:25:43
+mul-in-range : tie.Need-mul-in-range Inv-loop μ-loop
+mul-in-range c = search needs
+
+-- src/records.rt:25:43
+shared-slice-read-in-range : tie.Need-shared-slice-read-in-range Inv-loop μ-loop
+shared-slice-read-in-range c = search needs
+
+-- src/records.rt:25:76
+shared-slice-read-in-range-2 : tie.Need-shared-slice-read-in-range-2 Inv-loop μ-loop
+shared-slice-read-in-range-2 c = search needs
+
+-- src/records.rt:25:13
+in-range-requires : tie.Need-in-range-requires Inv-loop μ-loop
+in-range-requires c κs = omega (arith, row-short (c .before .before .before .before .before .args .kind))
+
+-- src/records.rt:26:13
+returns : tie.Need-returns Inv-loop μ-loop
+returns c =
+    let a = c .before .before .before .before .before .before .before .args in
+    let l = c .before .before .before .before .before .loop in
+    sym (out-of-range (a .stations) (a .lines) (value (a .numbers .now) 0) (getD rows (a .kind) []) (a .numbers .now) (l .field) (omega arith) (omega arith)
+    (sym (c .before .in-range .ensures) ∙ not-true (c .before .in-range .result) (c .if1 .taken)))
+    ∙ l .inv .2
+
+-- src/records.rt:24:9
+add-field : tie.Need-add-field Inv-loop μ-loop
+add-field c = search needs
+
+-- src/records.rt:24:5
+loop-less : tie.Need-loop-less Inv-loop μ-loop
+loop-less c = search needs
+
+-- src/records.rt:24:5
+loop-again : tie.Need-loop-again Inv-loop μ-loop
+loop-again c =
+    let a = c .before .before .before .before .before .before .before .args in
+    let l = c .before .before .before .before .before .loop in (
+      refl,
+      omega arith,
+      sym (within-range (a .stations) (a .lines) (value (a .numbers .now) 0) (getD rows (a .kind) []) (a .numbers .now) (l .field) (omega arith) (omega arith)
+          (sym (c .before .in-range .ensures) ∙ not-false (c .before .in-range .result) (c .if1 .left)))
+          ∙ l .inv .2,
+    )
+
+-- src/records.rt:20:1
+returns-2 : tie.Need-returns-2 Inv-loop μ-loop
+returns-2 c =
+    let a = c .before .before .before .args in
+    let l = c .before .loop in
+    sym (no-more (a .stations) (a .lines) (value (a .numbers .now) 0) (getD rows (a .kind) []) (a .numbers .now) (l .field) (omega arith)) ∙ l .inv .2
+
+pub in-ranges-spec : {M : Type 1} → statement M
+in-ranges-spec =
+    tie.close
+    (tie.spec
+    Inv-loop
+    μ-loop
+    loop-holds
+    mul-in-range
+    shared-slice-read-in-range
+    shared-slice-read-in-range-2
+    in-range-requires
+    returns
+    add-field
+    loop-less
+    loop-again
+    returns-2)

@@ -1,0 +1,126 @@
+use borrow.Author.Tests.{not-true, not-false}
+use mathlib.Core.Path.{_≡_, refl, sym, ap, _∙_}
+use mathlib.Core.List.{[]}
+use native.Mathlib.Omega.{arith}
+use Rattle.reader.specs.Parts.{kindAt, letters}
+use Rattle.reader.proofs.Next.{not-closed, wrong-form, wrong-range, right, form-wrong, form-right}
+use Rattle.reader.specs.Says.{stepSays, forward}
+use borrow.Author.Needs.{needs}
+use Rattle.reader.proofs.records.read_record.Statement.{statement}
+use Rattle.reader.proofs.records.read_record.Tie as tie
+use Rattle.reader.proofs.records.read_record.Reads as reads
+use Rattle.reader.proofs.records.read_record.Lts as lts
+use Rattle.reader.proofs.format.part_end.Reads as part-end-reads
+use Rattle.reader.proofs.format.read_form.Reads as read-form-reads
+use Rattle.reader.proofs.records.in_ranges.Reads as in-ranges-reads
+
+-- src/records.rt:46:9
+part-end-requires : tie.Need-part-end-requires
+part-end-requires c κs = search needs
+
+-- src/records.rt:48:9
+returns : tie.Need-returns
+unfolding stepSays forward
+returns c =
+    let a = c .before .before .before .before .args in
+    (sym (not-closed (a .file .now) (a .at) (c .before .part-end .result) (c .before .part-end .ensures .0) (a .stations) (a .lines) (a .i) (kindAt (a .kind)) (omega arith)), tt)
+
+-- src/records.rt:53:19
+sub-read-form : tie.Need-sub-read-form
+sub-read-form c = search needs
+
+-- src/records.rt:53:19
+part-read-form-start : tie.Need-part-read-form-start
+part-read-form-start c = search needs
+
+-- src/records.rt:53:19
+part-read-form-end : tie.Need-part-read-form-end
+part-read-form-end c = search needs
+
+-- src/records.rt:53:35
+array-read-read-form : tie.Need-array-read-read-form
+array-read-read-form c = search needs
+
+-- src/records.rt:53:9
+read-form-requires : tie.Need-read-form-requires
+read-form-requires c κs = search needs
+
+-- src/records.rt:54:9
+same-length : tie.Need-same-length
+same-length c = search needs
+
+-- src/records.rt:54:9
+returns-2 : tie.Need-returns-2
+unfolding stepSays forward letters
+returns-2 c =
+    let a = c .before .before .before .before .before .before .before .before .before .before .args in
+    let p = c .before .before .before .before .before .before .before .part-end in
+    let f = c .before .before .before .read-form in (
+      sym (wrong-form (a .file .now) (a .at) (p .result) (p .ensures .0) (a .stations) (a .lines) (a .i) (kindAt (a .kind)) (omega arith) []
+          (form-wrong (f .result) (f .last .1 .1 .0) (a .kind) _ _ (f .ensures) (omega arith) (not-true (f .result) (c .if2 .taken)))),
+      tt,
+    )
+
+-- src/records.rt:59:9
+in-ranges-requires : tie.Need-in-ranges-requires
+in-ranges-requires c κs = search needs
+
+-- src/records.rt:60:9
+same-length-2 : tie.Need-same-length-2
+same-length-2 c = search needs
+
+-- src/records.rt:60:9
+returns-3 : tie.Need-returns-3
+unfolding stepSays forward letters kindAt
+returns-3 c =
+    let a = c .before .before .before .before .before .before .before .before .before .before .before .before .before .args in
+    let p = c .before .before .before .before .before .before .before .before .before .before .part-end in
+    let f = c .before .before .before .before .before .before .read-form in
+    let r = c .before .in-ranges in (
+      sym (wrong-range (a .file .now) (a .at) (p .result) (p .ensures .0) (a .stations) (a .lines) (a .i) (kindAt (a .kind)) (omega arith) (f .last .1 .1 .0)
+          (form-right (f .result) (f .last .1 .1 .0) (a .kind) _ _ (f .ensures) (omega arith) (not-false (f .result) (c .before .before .before .if2 .left)))
+          (sym (not-true (r .result) (c .if3 .taken)) ∙ r .ensures)),
+      tt,
+    )
+
+-- src/records.rt:65:16
+add-t9 : tie.Need-add-t9
+add-t9 c = search needs
+
+-- src/records.rt:33:1
+same-length-3 : tie.Need-same-length-3
+same-length-3 c = search needs
+
+-- src/records.rt:33:1
+returns-4 : tie.Need-returns-4
+unfolding stepSays forward letters kindAt
+returns-4 c =
+    let a = c .before .before .before .before .before .before .before .before .before .before .before .before .before .args in
+    let p = c .before .before .before .before .before .before .before .before .before .before .part-end in
+    let f = c .before .before .before .before .before .before .read-form in
+    let r = c .before .in-ranges in (
+      sym (right (a .file .now) (a .at) (p .result) (p .ensures .0) (a .stations) (a .lines) (a .i) (kindAt (a .kind)) (omega arith) (f .last .1 .1 .0)
+          (form-right (f .result) (f .last .1 .1 .0) (a .kind) _ _ (f .ensures) (omega arith) (not-false (f .result) (c .before .before .before .if2 .left)))
+          (sym (not-false (r .result) (c .if3 .left)) ∙ r .ensures)),
+      (omega arith, omega arith),
+    )
+
+pub read-record-spec : {M : Type 1} → statement M
+read-record-spec =
+    tie.close
+    (tie.spec
+    part-end-requires
+    returns
+    sub-read-form
+    part-read-form-start
+    part-read-form-end
+    array-read-read-form
+    read-form-requires
+    same-length
+    returns-2
+    in-ranges-requires
+    same-length-2
+    returns-3
+    add-t9
+    same-length-3
+    returns-4)

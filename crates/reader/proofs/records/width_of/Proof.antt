@@ -1,0 +1,24 @@
+use native.Mathlib.Omega.{arith}
+use Rattle.reader.proofs.Ranged.{row-width, row-short}
+use borrow.Author.Needs.{needs}
+use Rattle.reader.proofs.records.width_of.Statement.{statement}
+use Rattle.reader.proofs.records.width_of.Tie as tie
+use Rattle.reader.proofs.records.width_of.Reads as reads
+use Rattle.reader.proofs.records.width_of.Lts as lts
+
+-- src/records.rt:76:5
+mul-result : tie.Need-mul-result
+mul-result c = search needs
+
+-- src/records.rt:76:5
+array-read-result : tie.Need-array-read-result
+array-read-result c = search needs
+
+-- src/records.rt:72:1
+returns : tie.Need-returns
+returns c =
+    let k = c .args .kind in
+    (row-width k, omega (arith, row-width k, row-short k))
+
+pub width-of-spec : {M : Type 1} → statement M
+width-of-spec = tie.close (tie.spec mul-result array-read-result returns)
