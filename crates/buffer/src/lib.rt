@@ -29,6 +29,13 @@ pub fn places(net: &[u64; 5129]) -> usize
     net[8] as usize
 }
 
+// The mean outage duration, in minutes.
+pub fn minutes(net: &[u64; 5129]) -> u64
+    ensures { λ r. ⌜ r ≡ networkIn (now (net .entry)) .head .minutes ⌝ }
+{
+    net[2]
+}
+
 // Whether a station is an HV station.
 pub fn is_hv(net: &[u64; 5129], station: usize) -> bool
     requires { ⌜ StationThere (now net) station ⌝ }

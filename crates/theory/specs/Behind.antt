@@ -43,12 +43,12 @@ unfoldable mutual
 -- ── lists that repeat nothing: how they are made ──
 module _ {A : Type 0} where
   -- what differs from every element of a list is none of them
-  none-of : (x : A) (xs : List A) → ((y : A) → List·Memᴰ y xs → x ≢ y) → Fresh x xs
+  pub none-of : (x : A) (xs : List A) → ((y : A) → List·Memᴰ y xs → x ≢ y) → Fresh x xs
   none-of x [] h = tt
   none-of x (y ∷ ys) h = (h y (List·Memᴰ·head refl), none-of x ys (λ z m. h z (List·Memᴰ·tail m)))
 
   -- two lists with nothing in common
-  append-once : (xs ys : List A) → NoRepeat xs → NoRepeat ys → ((x y : A) → List·Memᴰ x xs → List·Memᴰ y ys → x ≢ y) → NoRepeat (xs ++ ys)
+  pub append-once : (xs ys : List A) → NoRepeat xs → NoRepeat ys → ((x y : A) → List·Memᴰ x xs → List·Memᴰ y ys → x ≢ y) → NoRepeat (xs ++ ys)
   append-once [] ys n m h = m
   append-once (x ∷ xs) ys n m h = (
     none-of x (xs ++ ys) (λ y k. ⊎-elim (λ i e. Fresh-not x y xs (n .0) i (sym e)) (λ i. h x y (List·Memᴰ·head refl) i) (List·Memᴰ·append-cases xs k)),
@@ -56,7 +56,7 @@ module _ {A : Type 0} where
   )
 
   -- the elements that pass a test
-  keep-once : (test : A → Bool) (xs : List A) → NoRepeat xs → NoRepeat (keep test xs)
+  pub keep-once : (test : A → Bool) (xs : List A) → NoRepeat xs → NoRepeat (keep test xs)
   unfolding keep
   keep-once test [] n = tt
   keep-once test (x ∷ xs) n = go (test x) (keep-once test xs (n .1))
@@ -71,7 +71,7 @@ map-once f i [] n = tt
 map-once f i (x ∷ xs) n =
     (none-of (f x) (map f xs) (λ b m e. let g = Memᴰ·of-map f xs m in Fresh-not x (g .0) xs (n .0) (g .1) (i (g .0) x (g .2 ∙ sym e))), map-once f i xs (n .1))
 
-numbers-once : (from count : ℕ) → NoRepeat (numbers from count)
+pub numbers-once : (from count : ℕ) → NoRepeat (numbers from count)
 unfolding numbers
 numbers-once from zero = tt
 numbers-once from (suc count) = (none-of from (numbers (from + 1) count) (λ y m e. omega (arith, numbers-in y (from + 1) count m .0)), numbers-once (from + 1) count)
@@ -110,7 +110,7 @@ sum-map f g (x ∷ xs) = ap (λ n. f (g x) + n) (sum-map f g xs)
 
 -- ── the closed ends as a graph ──
 -- the far end is another end
-far-not : (e : End) → far e ≢ e
+pub far-not : (e : End) → far e ≢ e
 far-not e p = let t : 3 - e .side ≡ e .side = ap (λ (x : End). x .side) p in omega arith
 
 -- the stations and lines of the file
@@ -133,7 +133,7 @@ leads N j v = led (isOpen N j) (isAt N v j) (across N v j)
 
 module _ (N : Network) where
   -- the closed ends are listed once each
-  closed-once : NoRepeat (closedEnds N)
+  pub closed-once : NoRepeat (closedEnds N)
   unfolding closedEnds lineNumbers
   closed-once = keep-once (λ e. not (isOpen N e)) (flatMap (λ l. end1 l ∷ end2 l ∷ []) (numbers 1 (length (N .lines)))) (ends-once (numbers 1 (length (N .lines))) (numbers-once 1 (length (N .lines))))
 
@@ -158,11 +158,11 @@ module _ (N : Network) where
       go false false p q h = let z : _≡_ {A = ℕ} 0 1 = cc in absurd (omega arith)
 
   -- an end that is not open is number 1 or 2 of its line
-  side-of : (e : End) → isOpen N e ≡ false → (1 ≤ e .side) × (e .side ≤ 2)
+  pub side-of : (e : End) → isOpen N e ≡ false → (1 ≤ e .side) × (e .side ≤ 2)
   side-of e c = ⊎-elim (λ p. let q : e .side ≡ 1 = ap (λ (x : End). x .side) p in (omega arith, omega arith)) (λ p. let q : e .side ≡ 2 = ap (λ (x : End). x .side) p in (omega arith, omega arith)) (closed-end N e c .2)
 
   -- of two closed ends of a line that are not the same each is the far end of the other
-  other-end : (j e : End) → isOpen N j ≡ false → isOpen N e ≡ false → j .line ≡ e .line → j ≢ e → j ≡ far e
+  pub other-end : (j e : End) → isOpen N j ≡ false → isOpen N e ≡ false → j .line ≡ e .line → j ≢ e → j ≡ far e
   other-end j e a b p n = go (ℕ-discrete (j .side) (e .side))
     where
       go : Dec (j .side ≡ e .side) → j ≡ far e

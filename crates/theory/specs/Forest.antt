@@ -142,7 +142,7 @@ module _ (N : Network) (d : Read N) (r : Rules N) where
       ends : {x y : Vertex} → Walk (Joins N) y x [] → Root N y → Root N x
       ends (stop q) a = subst (Root N) (sym q) a
 
-  line-path : (l : ℕ) → In N (line l) → (e : End) × (es : List End) × (pathToHV N (line l) ≡ e ∷ es)
+  pub line-path : (l : ℕ) → In N (line l) → (e : End) × (es : List End) × (pathToHV N (line l) ≡ e ∷ es)
   unfolding atHV
   line-path l i = go (pathToHV N (line l)) refl (path-home (line l) i)
     where

@@ -1,2 +1,4 @@
 pub mod Linked
 pub mod Outwards
+pub mod Codes
+pub mod Queue

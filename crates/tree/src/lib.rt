@@ -1,1 +1,169 @@
 // The tree of a radial network: lists of the closed ends at each station, and the lines from the HV stations outwards.
+ghost use Prim.Native.Nat.{ℕ, _+_, _*_, _≤_, _<_};
+ghost use mathlib.Core.Path.{_≡_};
+ghost use mathlib.Core.Bool.{not};
+ghost use mathlib.Core.List.{List, []};
+ghost use lib.ListN.{length, getD, take};
+ghost use Rattle.model.specs.Paths.{End, isOpen, stationAt};
+ghost use Rattle.theory.specs.Reading.{Read};
+ghost use Rattle.theory.specs.Radial.{Rules};
+ghost use Rattle.buffer.specs.Buffer.{networkIn};
+ghost use Rattle.tree.specs.Linked.{codeEnd, Chain, Linked};
+ghost use Rattle.tree.specs.Outwards.{Outwards};
+ghost use Rattle.tree.specs.Codes.{CodeThere};
+ghost use Rattle.tree.specs.Queue.{leaving, Room, Added, Queue, Reached};
+
+// Whether the end with a code is closed.
+fn is_closed(net: &[u64; 5129], code: usize) -> bool
+    requires { ⌜ CodeThere (networkIn (now net)) code ⌝ }
+    ensures { λ r. ⌜ r ≡ not (isOpen (networkIn (now (net .entry))) (codeEnd code)) ⌝ }
+{
+    buffer::end_state(net, (code + 1) / 2, 2 - code % 2) != 2
+}
+
+// The station that the end with a code is at.
+fn station_of(net: &[u64; 5129], code: usize) -> usize
+    requires { ⌜ CodeThere (networkIn (now net)) code ⌝ }
+    ensures { λ r. ⌜ (r ≡ stationAt (networkIn (now (net .entry))) (codeEnd code)) × (1 ≤ r) × (r ≤ length (networkIn (now (net .entry)) .stations)) ⌝ }
+{
+    buffer::end_station(net, (code + 1) / 2, 2 - code % 2)
+}
+
+// Every station's list is empty.
+fn clear(heads: &mut [u64; 512], nexts: &mut [u64; 1536])
+    ensures { λ r. ⌜ ((k : ℕ) → getD (now (heads .exit)) k 0 ≡ 0) × (length (now (heads .exit)) ≡ 512) × (length (now (nexts .exit)) ≡ 1536) ⌝ }
+{
+    *heads = [0; 512];
+    *nexts = [0; 1536];
+}
+
+// The list of the closed ends at each station, by rising codes.
+pub fn link_ends(net: &[u64; 5129], heads: &mut [u64; 512], nexts: &mut [u64; 1536])
+    requires { ⌜ Read (networkIn (now net)) ⌝ }
+    ensures { λ r. ⌜ Linked (networkIn (now (net .entry))) (now (heads .exit)) (now (nexts .exit)) ⌝ }
+{
+    clear(heads, nexts);
+    let mut code = 2 * buffer::lines(net);
+    while code != 0 {
+        if is_closed(net, code) {
+            let station = station_of(net, code);
+            nexts[code - 1] = heads[station - 1];
+            heads[station - 1] = code as u64;
+        }
+        code -= 1;
+    }
+}
+
+// No line is noted.
+fn blank(near: &mut [u64; 768], feed: &mut [u64; 768], order: &mut [u64; 768])
+    ensures { λ r. ⌜ (length (now (near .exit)) ≡ 768) × (length (now (feed .exit)) ≡ 768) × (length (now (order .exit)) ≡ 768) ⌝ }
+{
+    *near = [0; 768];
+    *feed = [0; 768];
+    *order = [0; 768];
+}
+
+// The lines of the ends in the list that begins with `first`, but for the end with code `came`, follow the first `count` lines
+// of the order; each end is its line's near end, and line `fed` feeds it. Returns how many lines the order has then.
+fn append(
+    nexts: &[u64; 1536],
+    near: &mut [u64; 768],
+    feed: &mut [u64; 768],
+    order: &mut [u64; 768],
+    first: usize,
+    came: usize,
+    fed: u64,
+    count: usize,
+) -> usize
+    requires { ⌜ Room (now nexts) first came count ⌝ }
+    ensures { λ r. ⌜ ((most : ℕ) (es : List End) → Chain most (now (nexts .entry)) first es → Added (leaving came es) fed count (now (near .entry)) (now (feed .entry)) (now (order .entry)) (now (near .exit)) (now (feed .exit)) (now (order .exit)) r) ⌝ }
+{
+    let mut n = count;
+    let mut code = first;
+    while code != 0 {
+        if code != came {
+            let line = (code + 1) / 2;
+            near[line - 1] = (2 - code % 2) as u64;
+            feed[line - 1] = fed;
+            order[n] = line as u64;
+            n += 1;
+        }
+        code = nexts[code - 1] as usize;
+    }
+    n
+}
+
+// The lines that leave the HV stations. Returns how many there are.
+fn from_hv(
+    net: &[u64; 5129],
+    heads: &[u64; 512],
+    nexts: &[u64; 1536],
+    near: &mut [u64; 768],
+    feed: &mut [u64; 768],
+    order: &mut [u64; 768],
+) -> usize
+    requires { ⌜ Read (networkIn (now net)) × Rules (networkIn (now net)) × Linked (networkIn (now net)) (now heads) (now nexts) ⌝ }
+    ensures { λ r. ⌜ Queue (networkIn (now (net .entry))) (Reached (networkIn (now (net .entry))) []) (now (near .exit)) (now (feed .exit)) (now (order .exit)) r ⌝ }
+{
+    blank(near, feed, order);
+    let mut n = 0;
+    for s in 0..buffer::stations(net) {
+        if buffer::is_hv(net, s + 1) {
+            n = append(nexts, near, feed, order, heads[s] as usize, 0, 0, n);
+        }
+    }
+    n
+}
+
+// The lines that leave the far station of line i of the order follow its n lines. Returns how many lines it has then.
+fn from_line(
+    net: &[u64; 5129],
+    heads: &[u64; 512],
+    nexts: &[u64; 1536],
+    near: &mut [u64; 768],
+    feed: &mut [u64; 768],
+    order: &mut [u64; 768],
+    i: usize,
+    n: usize,
+) -> usize
+    requires { ⌜ Read (networkIn (now net)) × Rules (networkIn (now net)) × Linked (networkIn (now net)) (now heads) (now nexts) ⌝ }
+    requires { ⌜ Queue (networkIn (now net)) (Reached (networkIn (now net)) (take i (now order))) (now near) (now feed) (now order) n × (i < n) ⌝ }
+    ensures { λ r. ⌜ Queue (networkIn (now (net .entry))) (Reached (networkIn (now (net .entry))) (take (i + 1) (now (order .exit)))) (now (near .exit)) (now (feed .exit)) (now (order .exit)) r × (i < r) ⌝ }
+{
+    let line = order[i] as usize;
+    let code = 2 * line + 1 - near[line - 1] as usize;
+    if !is_closed(net, code) {
+        return n;
+    }
+    let station = station_of(net, code);
+    append(
+        nexts,
+        near,
+        feed,
+        order,
+        heads[station - 1] as usize,
+        code,
+        line as u64,
+        n,
+    )
+}
+
+// The near end and the feeding line of each line, and an order of all lines from the HV stations outwards.
+pub fn outwards(
+    net: &[u64; 5129],
+    heads: &[u64; 512],
+    nexts: &[u64; 1536],
+    near: &mut [u64; 768],
+    feed: &mut [u64; 768],
+    order: &mut [u64; 768],
+)
+    requires { ⌜ Read (networkIn (now net)) × Rules (networkIn (now net)) × Linked (networkIn (now net)) (now heads) (now nexts) ⌝ }
+    ensures { λ r. ⌜ Outwards (networkIn (now (net .entry))) (now (near .exit)) (now (feed .exit)) (now (order .exit)) ⌝ }
+{
+    let mut n = from_hv(net, heads, nexts, near, feed, order);
+    let mut i = 0;
+    while i < n {
+        n = from_line(net, heads, nexts, near, feed, order, i, n);
+        i += 1;
+    }
+}

@@ -1,0 +1,98 @@
+use mathlib.Core.Logic.{⊎-elim}
+use borrow.Author.Needs.{needs}
+use Rattle.tree.proofs.Following.{codesLeft, Following, following-start, following-end, following-less, following-skip, following-add}
+use Rattle.tree.proofs.append.Statement.{statement}
+use Rattle.tree.proofs.append.Tie as tie
+
+abbrev Inv-loop : tie.InvT-loop
+Inv-loop nexts near₀ feed₀ order₀ first came fed count n₀ code₀ near feed order n code = Following nexts first came fed count near₀ feed₀ order₀ near feed order n code
+
+abbrev μ-loop : tie.MeasureT-loop
+μ-loop nexts near₀ feed₀ order₀ first came fed count n₀ code₀ near feed order n code = codesLeft code
+
+loop-holds : tie.Need-loop-holds Inv-loop μ-loop
+loop-holds c = following-start _ _ _ _ _ _ _ _ (c .pre)
+
+add-line : tie.Need-add-line Inv-loop μ-loop
+add-line c = search needs
+
+sub-near : tie.Need-sub-near Inv-loop μ-loop
+sub-near c = search needs
+
+sub-near-2 : tie.Need-sub-near-2 Inv-loop μ-loop
+sub-near-2 c = search needs
+
+mul-near : tie.Need-mul-near Inv-loop μ-loop
+mul-near c = search needs
+
+element-write-near : tie.Need-element-write-near Inv-loop μ-loop
+element-write-near c = search needs
+
+sub-feed : tie.Need-sub-feed Inv-loop μ-loop
+sub-feed c = search needs
+
+mul-feed : tie.Need-mul-feed Inv-loop μ-loop
+mul-feed c = search needs
+
+element-write-feed : tie.Need-element-write-feed Inv-loop μ-loop
+element-write-feed c = search needs
+
+mul-order : tie.Need-mul-order Inv-loop μ-loop
+mul-order c = search needs
+
+element-write-order : tie.Need-element-write-order Inv-loop μ-loop
+element-write-order c = let h = c .before .before .loop in
+    following-add _ _ _ _ _ _ _ _ (h .near) (h .feed) (h .order) (h .n) (h .code) (c .before .loop-test .taken) (h .inv) (c .if1 .taken) .0
+
+add-n : tie.Need-add-n Inv-loop μ-loop
+add-n c = search needs
+
+sub-code : tie.Need-sub-code Inv-loop μ-loop
+sub-code c = search needs
+
+mul-code : tie.Need-mul-code Inv-loop μ-loop
+mul-code c = search needs
+
+element-copy-out-code : tie.Need-element-copy-out-code Inv-loop μ-loop
+element-copy-out-code c = search needs
+
+loop-less : tie.Need-loop-less Inv-loop μ-loop
+loop-less c = let h = c .before .before .before .loop in
+    following-less _ _ _ _ _ _ _ _ (h .near) (h .feed) (h .order) (h .n) (h .code) (c .before .before .loop-test .taken) (h .inv)
+
+loop-again : tie.Need-loop-again Inv-loop μ-loop
+loop-again c = let h = c .before .before .before .loop in
+    let t = c .before .before .loop-test .taken in
+    ⊎-elim
+    (λ w. rw (w .1, w .2, w .3, w .4) (following-add _ _ _ _ _ _ _ _ (h .near) (h .feed) (h .order) (h .n) (h .code) t (h .inv) (w .0 .taken) .1))
+    (λ w. rw (w .1, w .2, w .3, w .4) (following-skip _ _ _ _ _ _ _ _ (h .near) (h .feed) (h .order) (h .n) (h .code) t (h .inv) (w .0 .left)))
+    (c .before .if1 .came)
+
+returns : tie.Need-returns Inv-loop μ-loop
+returns c = let h = c .before .loop in
+    λ most es t. following-end _ _ _ _ _ _ _ _ (h .near) (h .feed) (h .order) (h .n) (h .code) (c .loop-test .left) (h .inv) t
+
+pub append-spec : {M : Type 1} → statement M
+append-spec =
+    tie.close
+    (tie.spec
+    Inv-loop
+    μ-loop
+    loop-holds
+    add-line
+    sub-near
+    sub-near-2
+    mul-near
+    element-write-near
+    sub-feed
+    mul-feed
+    element-write-feed
+    mul-order
+    element-write-order
+    add-n
+    sub-code
+    mul-code
+    element-copy-out-code
+    loop-less
+    loop-again
+    returns)

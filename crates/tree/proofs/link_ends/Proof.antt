@@ -1,0 +1,115 @@
+use Prim.Native.Nat.{_*_, _≤_}
+use mathlib.Core.Path.{_≡_, _∙_, sym, subst}
+use mathlib.Core.Logic.{⊎-elim}
+use native.Mathlib.Omega.{arith}
+use lib.ListN.{length-set, length}
+use borrow.Author.Tests.{not-true, not-false}
+use borrow.Author.Needs.{needs}
+use Rattle.buffer.specs.Buffer.{networkIn}
+use Rattle.tree.proofs.Linking.{LinkedAbove, linked-start, linked-end, linked-open, linked-closed}
+use Rattle.tree.proofs.link_ends.Statement.{statement}
+use Rattle.tree.proofs.link_ends.Tie as tie
+
+abbrev Inv-loop : tie.InvT-loop
+Inv-loop net heads₀ nexts₀ code₀ heads nexts code = (code ≤ 2 * length (networkIn net .lines)) × LinkedAbove (networkIn net) code heads nexts × (length heads ≡ 512) × (length nexts ≡ 1536)
+
+abbrev μ-loop : tie.MeasureT-loop
+μ-loop net heads₀ nexts₀ code₀ heads nexts code = code
+
+clear-requires : tie.Need-clear-requires Inv-loop μ-loop
+clear-requires c κs = search needs
+
+lines-requires : tie.Need-lines-requires Inv-loop μ-loop
+lines-requires c κs = search needs
+
+mul-code : tie.Need-mul-code Inv-loop μ-loop
+mul-code c = search needs
+
+loop-holds : tie.Need-loop-holds Inv-loop μ-loop
+loop-holds c = let n = networkIn (c .before .before .before .before .args .net .now) in
+    let k = c .before .clear in
+    (omega arith, subst (λ m. LinkedAbove n (2 * m) (k .last .0) (k .last .1 .0)) (sym (c .lines .ensures)) (linked-start n (k .last .0) (k .last .1 .0) (k .ensures .0)), k .ensures .1, k .ensures .2)
+
+is-closed-requires : tie.Need-is-closed-requires Inv-loop μ-loop
+is-closed-requires c κs = search needs
+
+station-of-requires : tie.Need-station-of-requires Inv-loop μ-loop
+station-of-requires c κs = search needs
+
+sub-nexts : tie.Need-sub-nexts Inv-loop μ-loop
+sub-nexts c = search needs
+
+mul-nexts : tie.Need-mul-nexts Inv-loop μ-loop
+mul-nexts c = search needs
+
+element-copy-out-nexts : tie.Need-element-copy-out-nexts Inv-loop μ-loop
+element-copy-out-nexts c = search needs
+
+sub-nexts-2 : tie.Need-sub-nexts-2 Inv-loop μ-loop
+sub-nexts-2 c = search needs
+
+mul-nexts-2 : tie.Need-mul-nexts-2 Inv-loop μ-loop
+mul-nexts-2 c = search needs
+
+element-write-nexts : tie.Need-element-write-nexts Inv-loop μ-loop
+element-write-nexts c = search needs
+
+sub-heads : tie.Need-sub-heads Inv-loop μ-loop
+sub-heads c = search needs
+
+mul-heads : tie.Need-mul-heads Inv-loop μ-loop
+mul-heads c = search needs
+
+element-write-heads : tie.Need-element-write-heads Inv-loop μ-loop
+element-write-heads c = search needs
+
+sub-code : tie.Need-sub-code Inv-loop μ-loop
+sub-code c = search needs
+
+loop-less : tie.Need-loop-less Inv-loop μ-loop
+loop-less c = search needs
+
+loop-again : tie.Need-loop-again Inv-loop μ-loop
+loop-again c = let h = c .before .before .before .loop in
+    let n = networkIn (c .before .before .before .before .before .before .before .before .args .net .now) in
+    let closed = c .before .is-closed .ensures in
+    ⊎-elim
+    (λ w. rw (w .3, w .4) (
+      omega arith,
+      linked-closed n (h .code) (omega arith) (h .inv .0) (h .heads) (h .nexts) (h .inv .1) (w .1 .result) (w .1 .ensures .0) (w .1 .ensures .1) (omega arith) (omega arith) (not-true _ (sym closed ∙ w .0 .taken)),
+      length-set (h .heads) _ _ ∙ h .inv .2,
+      length-set (h .nexts) _ _ ∙ h .inv .3,
+    ))
+    (λ w. rw (w .1, w .2) (omega arith, linked-open n (h .code) (omega arith) (h .inv .0) (h .heads) (h .nexts) (h .inv .1) (not-false _ (sym closed ∙ w .0 .left)), h .inv .2, h .inv .3))
+    (c .if1 .came)
+
+returns : tie.Need-returns Inv-loop μ-loop
+returns c = let h = c .before .loop in
+    let n = networkIn (c .before .before .before .before .before .before .args .net .now) in
+    linked-end n (h .heads) (h .nexts) (subst (λ k. LinkedAbove n k (h .heads) (h .nexts)) (omega arith) (h .inv .1))
+
+pub link-ends-spec : {M : Type 1} → statement M
+link-ends-spec =
+    tie.close
+    (tie.spec
+    Inv-loop
+    μ-loop
+    clear-requires
+    lines-requires
+    mul-code
+    loop-holds
+    is-closed-requires
+    station-of-requires
+    sub-nexts
+    mul-nexts
+    element-copy-out-nexts
+    sub-nexts-2
+    mul-nexts-2
+    element-write-nexts
+    sub-heads
+    mul-heads
+    element-write-heads
+    sub-code
+    loop-less
+    loop-again
+    returns)
