@@ -174,9 +174,8 @@ def answer(call, data):
         return "accepted\n"
     if call == "total":
         return f"{net.total()},{net.head['minutes'] * net.total()}\n"
-    if call == "impact":  # of every line, and of the two numbers outside
-        count = len(net.lines)
-        return "X,2,0\n" + "".join(f"{net.impact(l + 1)}\n" for l in range(count)) + "X,2,0\n"
+    if call == "impact":  # of 0, of the largest number, of each line, of the number after the last line
+        return 2 * "X,2,0\n" + "".join(f"{net.impact(l + 1)}\n" for l in range(len(net.lines))) + "X,2,0\n"
     if call == "search":
         done, visits, best, total = net.search()
         return ",".join(map(str, [done, len(best), total, visits, *best])) + "\n"

@@ -1,6 +1,6 @@
 -- The customers behind an end by recursion down the tree, from station to line and from line to far station. They are the
 -- customers of all stations whose path to the HV station passes the end.
-use Prim.Native.Nat.{ℕ, zero, suc, _+_, _-_, _≤_}
+use Prim.Native.Nat.{ℕ, zero, suc, _+_, _-_, _≤_, _<_}
 use mathlib.Core.Path.{_≡_, refl, sym, ap, _∙_, subst}
 use mathlib.Core.Bool.{Bool, true, false, not, _&&_, _||_, true≢false}
 use mathlib.Core.Logic.{_≢_, _↔_, ⊎-elim}
@@ -261,22 +261,26 @@ module _ (N : Network) where
       (List·Memᴰ·append-cases (map (λ s. station s) (numbers 1 (length (N .stations)))) m)
 
 module _ (N : Network) (d : Read N) (r : Rules N) where
-  -- the customers behind an end, by levels, from the vertex whose path begins with it
-  down-is : (k : ℕ) → length (closedEnds N) ≤ k → (e : End) (v w : Vertex) → Joins N e v w → pathToHV N v ≡ e ∷ pathToHV N w → customersBehind N e ≡ down N k e v
-  down-is k h e v w j p =
+  -- the customers behind an end, by levels, from the vertex whose path begins with it: the path and the levels together are longer than any path
+  down-is : (k : ℕ) (e : End) (v w : Vertex) → Joins N e v w → pathToHV N v ≡ e ∷ pathToHV N w → length (closedEnds N) < length (pathToHV N v) + k → customersBehind N e ≡ down N k e v
+  down-is k e v w j p h =
       behind-sum N e
       ∙ behind-is (joins-edges N) (no-cycle N d r) (lone N d r) sameEnd sameEnd-is sameVertex sameVertex-is (leads N) (leads-is N) (closedEnds N) (closed-once N)
       (λ i u v j. in-closed N i (joins-closed N j)) (vertices N) (vertices-once N) (λ i u v j. listed-vertex N d u (joins-in N d i u v j)) (pathToHV N)
-      (λ t m. path-home N d r t (listed-in N t m)) (weight N) k e v (pathToHV N w) (listed-vertex N d v (joins-in N d e v w j)) p (omega (arith, ap length p))
+      (λ t m. path-home N d r t (listed-in N t m)) (weight N) k e v (pathToHV N w) (listed-vertex N d v (joins-in N d e v w j)) p h
+
+  -- The end by which a line's path begins is its near end: the customers behind it are those behind the line.
+  pub lineSum-left : (k : ℕ) (e : End) → isOpen N e ≡ false → pathToHV N (line (e .line)) ≡ e ∷ pathToHV N (station (stationAt N e))
+      → length (closedEnds N) < length (pathToHV N (line (e .line))) + k → customersBehind N e ≡ lineSum N k e
+  lineSum-left k e c p h = down-is k e (line (e .line)) (station (stationAt N e)) (out c refl refl) p h ∙ sym (sums-are N k .1 e c)
 
   module _ (k : ℕ) (h : length (closedEnds N) ≤ k) where
-    -- The end by which a line's path begins is its near end: the customers behind it are those behind the line.
     pub lineSum-is : (e : End) → isOpen N e ≡ false → pathToHV N (line (e .line)) ≡ e ∷ pathToHV N (station (stationAt N e)) → customersBehind N e ≡ lineSum N k e
-    lineSum-is e c p = down-is k h e (line (e .line)) (station (stationAt N e)) (out c refl refl) p ∙ sym (sums-are N k .1 e c)
+    lineSum-is e c p = lineSum-left k e c p (omega (arith, ap length p))
 
     -- The end by which a station's path begins is the far end of its line: the customers behind it are those behind the station.
     pub stationSum-is : (e : End) → isOpen N e ≡ false → pathToHV N (station (stationAt N e)) ≡ e ∷ pathToHV N (line (e .line)) → customersBehind N e ≡ stationSum N k e (stationAt N e)
-    stationSum-is e c p = down-is k h e (station (stationAt N e)) (line (e .line)) (into c refl refl) p ∙ sym (sums-are N k .0 e (stationAt N e))
+    stationSum-is e c p = down-is k e (station (stationAt N e)) (line (e .line)) (into c refl refl) p (omega (arith, ap length p)) ∙ sym (sums-are N k .0 e (stationAt N e))
 
   -- the near and the far end of a line have the same customers behind them, if both are closed
   pub ends-alike : (e : End) → isOpen N e ≡ false → isOpen N (far e) ≡ false → pathToHV N (line (e .line)) ≡ e ∷ pathToHV N (station (stationAt N e)) → customersBehind N e ≡ customersBehind N (far e)

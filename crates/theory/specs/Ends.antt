@@ -252,7 +252,7 @@ module _ (N : Network) where
       (Memᴰ·map (λ es. e ∷ es)
       (subst (λ y. List·Memᴰ es (pathsFrom N (closedEnds N) most (e ∷ used) y)) (sym (x .1)) (complete-from most (e ∷ used) w (n .1) (apart-more e used es (n .0) (a .1)) (omega arith)))))
 
-  walk-closed : {u v : Vertex} {es : List End} → Walk (Joins N) v u es → (e : End) → List·Memᴰ e es → List·Memᴰ e (closedEnds N)
+  pub walk-closed : {u v : Vertex} {es : List End} → Walk (Joins N) v u es → (e : End) → List·Memᴰ e es → List·Memᴰ e (closedEnds N)
   walk-closed (stop p) e m = absurd (List·Memᴰ·not-nil m)
   walk-closed (step {i = d} j w) e m = ⊎-elim (λ p. subst (λ x. List·Memᴰ x (closedEnds N)) (sym p) (in-closed d (joins-closed j))) (λ k. walk-closed w e k) (List·Memᴰ·cases-cons m)
 

@@ -28,7 +28,7 @@ unfolding sum
 sum-most f most h [] = omega arith
 sum-most f most h (x ∷ xs) = omega (arith, h x, sum-most f most h xs)
 
-keep-length : {A : Type 0} (test : A → Bool) (xs : List A) → length (keep test xs) ≤ length xs
+pub keep-length : {A : Type 0} (test : A → Bool) (xs : List A) → length (keep test xs) ≤ length xs
 unfolding keep
 keep-length test [] = omega arith
 keep-length {A} test (x ∷ xs) = go (test x) (keep-length test xs)

@@ -1,0 +1,532 @@
+use mathlib.Core.Path.{_≡_, refl, sym, ap, _∙_, subst}
+use mathlib.Core.Logic.{⊎-elim}
+use native.Mathlib.Omega.{arith}
+use lib.ListN.{length, getD, set, length-set}
+use Rattle.buffer.specs.Buffer.{networkIn}
+use Rattle.tree.specs.Linked.{codeEnd}
+use Rattle.outage.specs.Below.{Filled}
+use Rattle.outage.proofs.Paths.{station-levels, at-line}
+use Rattle.outage.proofs.Chains.{mostLeft, Part, part-start, part-sum, part-filled, part-code, part-less, part-skip, part-leaves, part-fits, part-more, station-size}
+use Rattle.outage.proofs.Calls.{read-fits, line-code, line-left, far-there, far-station, connected-sum, connected-filled, hanging-sum, hanging-filled}
+use Prim.Native.Nat.{ℕ, _+_, _-_, _/_, _<_}
+use borrow.Fn.Kinds.{In}
+use borrow.Fn.PlainCycle.{Measures, is, falls, and}
+use Rattle.outage.proofs.line_sum.Reads as line-sum
+use Rattle.outage.proofs.line_sum.Kinds as line-sum-kinds
+use Rattle.outage.proofs.+line_sum+station_sum.Lts-line_sum as line-sum-lts
+use Rattle.outage.proofs.station_sum.Reads as station-sum
+use Rattle.outage.proofs.station_sum.Kinds as station-sum-kinds
+use Rattle.outage.proofs.+line_sum+station_sum.Lts-station_sum as station-sum-lts
+use Rattle.buffer.proofs.customers.Reads as customers-reads
+use Rattle.buffer.proofs.end_state.Reads as end-state-reads
+use Rattle.buffer.proofs.end_station.Reads as end-station-reads
+use Rattle.outage.proofs.+line_sum+station_sum.{statement}
+use Rattle.outage.proofs.+line_sum+station_sum.Tie.{close}
+
+abbrev μ-line-sum : Measures 4 line-sum-kinds.ps ℕ
+μ-line-sum κs a = a .1 .1 .1 .1 .1 .0
+
+abbrev μ-station-sum : Measures 4 station-sum-kinds.ps ℕ
+μ-station-sum κs a = a .1 .1 .1 .1 .1 .1 .0
+
+abbrev line-sum-at : ℕ → In 4 line-sum-kinds.ps
+line-sum-at t = and 4 line-sum-kinds.ps (is 4 line-sum-kinds.ps μ-line-sum t) line-sum.Pre
+
+abbrev line-sum-below : ℕ → In 4 line-sum-kinds.ps
+line-sum-below t =
+    and 4 line-sum-kinds.ps (falls 4 line-sum-kinds.ps _<_ μ-line-sum t) line-sum.Pre
+
+abbrev station-sum-at : ℕ → In 4 station-sum-kinds.ps
+station-sum-at t =
+    and 4 station-sum-kinds.ps (is 4 station-sum-kinds.ps μ-station-sum t) station-sum.Pre
+
+abbrev station-sum-below : ℕ → In 4 station-sum-kinds.ps
+station-sum-below t =
+    and 4 station-sum-kinds.ps (falls 4 station-sum-kinds.ps _<_ μ-station-sum t) station-sum.Pre
+
+-- src/lib.rt:43:17
+line-sum-add-line : (t : ℕ) → line-sum-lts.Need-add-line (
+  end-state-reads.Asked,
+  end-state-reads.Learnt,
+  end-station-reads.Asked,
+  end-station-reads.Learnt,
+  station-sum-below t,
+  station-sum.Post,
+) (line-sum-at t) line-sum.Post
+line-sum-add-line t c =
+    let s = c .before in
+    let g = s .args in
+    omega (arith, line-code (g .net .now) (g .heads .now) (g .nexts .now) (s .pre .1 .0) (g .entered) (g .levels) (s .pre .1 .1))
+
+-- src/lib.rt:44:16
+line-sum-add-side : (t : ℕ) → line-sum-lts.Need-add-side (
+  end-state-reads.Asked,
+  end-state-reads.Learnt,
+  end-station-reads.Asked,
+  end-station-reads.Learnt,
+  station-sum-below t,
+  station-sum.Post,
+) (line-sum-at t) line-sum.Post
+line-sum-add-side t c = omega arith
+
+-- src/lib.rt:46:8
+line-sum-end-state-requires : (t : ℕ) → line-sum-lts.Need-end-state-requires (
+  end-state-reads.Asked,
+  end-state-reads.Learnt,
+  end-station-reads.Asked,
+  end-station-reads.Learnt,
+  station-sum-below t,
+  station-sum.Post,
+) (line-sum-at t) line-sum.Post
+line-sum-end-state-requires t c κs =
+    let s = c .before in
+    let g = s .args in
+    far-there (g .net .now) (g .heads .now) (g .nexts .now) (s .pre .1 .0) (g .entered) (g .levels) (s .pre .1 .1)
+
+-- src/lib.rt:47:13
+line-sum-end-station-requires : (t : ℕ) → line-sum-lts.Need-end-station-requires (
+  end-state-reads.Asked,
+  end-state-reads.Learnt,
+  end-station-reads.Asked,
+  end-station-reads.Learnt,
+  station-sum-below t,
+  station-sum.Post,
+) (line-sum-at t) line-sum.Post
+line-sum-end-station-requires t c κs =
+    let s = c .before .before .before in
+    let g = s .args in
+    far-there (g .net .now) (g .heads .now) (g .nexts .now) (s .pre .1 .0) (g .entered) (g .levels) (s .pre .1 .1)
+
+-- src/lib.rt:48:52
+line-sum-mul-station-sum : (t : ℕ) → line-sum-lts.Need-mul-station-sum (
+  end-state-reads.Asked,
+  end-state-reads.Learnt,
+  end-station-reads.Asked,
+  end-station-reads.Learnt,
+  station-sum-below t,
+  station-sum.Post,
+) (line-sum-at t) line-sum.Post
+line-sum-mul-station-sum t c =
+    let s = c .before .before .before .before .before in
+    let g = s .args in
+    omega (arith, line-code (g .net .now) (g .heads .now) (g .nexts .now) (s .pre .1 .0) (g .entered) (g .levels) (s .pre .1 .1))
+
+-- src/lib.rt:48:52
+line-sum-add-station-sum : (t : ℕ) → line-sum-lts.Need-add-station-sum (
+  end-state-reads.Asked,
+  end-state-reads.Learnt,
+  end-station-reads.Asked,
+  end-station-reads.Learnt,
+  station-sum-below t,
+  station-sum.Post,
+) (line-sum-at t) line-sum.Post
+line-sum-add-station-sum t c =
+    let s = c .before .before .before .before .before in
+    let g = s .args in
+    omega (arith, line-code (g .net .now) (g .heads .now) (g .nexts .now) (s .pre .1 .0) (g .entered) (g .levels) (s .pre .1 .1))
+
+-- src/lib.rt:48:52
+line-sum-sub-station-sum : (t : ℕ) → line-sum-lts.Need-sub-station-sum (
+  end-state-reads.Asked,
+  end-state-reads.Learnt,
+  end-station-reads.Asked,
+  end-station-reads.Learnt,
+  station-sum-below t,
+  station-sum.Post,
+) (line-sum-at t) line-sum.Post
+line-sum-sub-station-sum t c =
+    let s = c .before .before .before .before .before in
+    let g = s .args in
+    omega (arith, line-code (g .net .now) (g .heads .now) (g .nexts .now) (s .pre .1 .0) (g .entered) (g .levels) (s .pre .1 .1))
+
+-- src/lib.rt:48:82
+line-sum-sub-station-sum-2 : (t : ℕ) → line-sum-lts.Need-sub-station-sum-2 (
+  end-state-reads.Asked,
+  end-state-reads.Learnt,
+  end-station-reads.Asked,
+  end-station-reads.Learnt,
+  station-sum-below t,
+  station-sum.Post,
+) (line-sum-at t) line-sum.Post
+line-sum-sub-station-sum-2 t c =
+    let s = c .before .before .before .before .before in
+    let g = s .args in
+    line-left (g .net .now) (g .heads .now) (g .nexts .now) (s .pre .1 .0) (g .entered) (g .levels) (s .pre .1 .1)
+
+-- src/lib.rt:48:9
+line-sum-station-sum-requires : (t : ℕ) → line-sum-lts.Need-station-sum-requires (
+  end-state-reads.Asked,
+  end-state-reads.Learnt,
+  end-station-reads.Asked,
+  end-station-reads.Learnt,
+  station-sum-below t,
+  station-sum.Post,
+) (line-sum-at t) line-sum.Post
+line-sum-station-sum-requires t c κs =
+    let s = c .before .before .before .before .before in
+    let g = s .args in (
+      omega (arith, s .pre .0, line-left (g .net .now) (g .heads .now) (g .nexts .now) (s .pre .1 .0) (g .entered) (g .levels) (s .pre .1 .1)),
+      (
+        s .pre .1 .0,
+        far-station (g .net .now) (g .heads .now) (g .nexts .now) (s .pre .1 .0) (g .entered) (g .levels) (s .pre .1 .1) (c .before .end-station .result) (c .before .end-station .ensures) (λ q. c .before .before .if1 .taken (c .before .before .before .end-state .ensures ∙ q)),
+        s .pre .1 .2,
+      ),
+    )
+
+-- the buffer of sums keeps its length
+line-sum-length : (t : ℕ) (c : line-sum-lts.Joined1 (
+  end-state-reads.Asked,
+  end-state-reads.Learnt,
+  end-station-reads.Asked,
+  end-station-reads.Learnt,
+  station-sum-below t,
+  station-sum.Post,
+) (line-sum-at t) line-sum.Post) → length (c .if1 .sums) ≡ length (c .before .before .before .args .sums .now)
+line-sum-length t c = ⊎-elim (λ w. ap length (w .6) ∙ w .3 .kept .1 .1 .1 .0) (λ w. ap length (w .1)) (c .if1 .came)
+
+-- src/lib.rt:50:10
+line-sum-sub-sums : (t : ℕ) → line-sum-lts.Need-sub-sums (
+  end-state-reads.Asked,
+  end-state-reads.Learnt,
+  end-station-reads.Asked,
+  end-station-reads.Learnt,
+  station-sum-below t,
+  station-sum.Post,
+) (line-sum-at t) line-sum.Post
+line-sum-sub-sums t c =
+    let s = c .before .before .before in
+    let g = s .args in
+    omega (arith, line-code (g .net .now) (g .heads .now) (g .nexts .now) (s .pre .1 .0) (g .entered) (g .levels) (s .pre .1 .1))
+
+-- src/lib.rt:50:5
+line-sum-mul-sums : (t : ℕ) → line-sum-lts.Need-mul-sums (
+  end-state-reads.Asked,
+  end-state-reads.Learnt,
+  end-station-reads.Asked,
+  end-station-reads.Learnt,
+  station-sum-below t,
+  station-sum.Post,
+) (line-sum-at t) line-sum.Post
+line-sum-mul-sums t c =
+    let s = c .before .before .before in
+    let g = s .args in
+    omega (arith, line-code (g .net .now) (g .heads .now) (g .nexts .now) (s .pre .1 .0) (g .entered) (g .levels) (s .pre .1 .1))
+
+-- src/lib.rt:50:5
+line-sum-slice-write-sums : (t : ℕ) → line-sum-lts.Need-slice-write-sums (
+  end-state-reads.Asked,
+  end-state-reads.Learnt,
+  end-station-reads.Asked,
+  end-station-reads.Learnt,
+  station-sum-below t,
+  station-sum.Post,
+) (line-sum-at t) line-sum.Post
+line-sum-slice-write-sums t c =
+    let s = c .before .before .before in
+    let g = s .args in
+    omega (arith, line-code (g .net .now) (g .heads .now) (g .nexts .now) (s .pre .1 .0) (g .entered) (g .levels) (s .pre .1 .1), line-sum-length t c)
+
+-- src/lib.rt:39:1
+line-sum-same-length : (t : ℕ) → line-sum-lts.Need-same-length (
+  end-state-reads.Asked,
+  end-state-reads.Learnt,
+  end-station-reads.Asked,
+  end-station-reads.Learnt,
+  station-sum-below t,
+  station-sum.Post,
+) (line-sum-at t) line-sum.Post
+line-sum-same-length t c = simp length-set (line-sum-length t c)
+
+-- src/lib.rt:39:1
+line-sum-returns : (t : ℕ) → line-sum-lts.Need-returns (
+  end-state-reads.Asked,
+  end-state-reads.Learnt,
+  end-station-reads.Asked,
+  end-station-reads.Learnt,
+  station-sum-below t,
+  station-sum.Post,
+) (line-sum-at t) line-sum.Post
+line-sum-returns t c =
+    let s = c .before .before .before in
+    let g = s .args in
+    let N = networkIn (g .net .now) in
+    let at = (g .entered + 1) / 2 - 1 in
+    ⊎-elim
+    (λ w. (
+      w .7 ∙ connected-sum (g .net .now) (g .heads .now) (g .nexts .now) (s .pre .1 .0) (g .entered) (g .levels) (s .pre .1 .1) (w .1 .result) (w .1 .ensures) (λ q. w .0 .taken (c .before .end-state .ensures ∙ q)) (w .3 .result) (w .3 .ensures .0),
+      subst (λ z. Filled N (λ d. d ≡ codeEnd (g .entered)) (g .sums .now) (set z at (c .if1 .sum))) (sym (w .6))
+          (subst (λ z. Filled N (λ d. d ≡ codeEnd (g .entered)) (g .sums .now) (set (w .3 .last .1 .1 .1 .0) at z)) (sym (w .7))
+          (connected-filled (g .net .now) (g .heads .now) (g .nexts .now) (s .pre .1 .0) (g .entered) (g .levels) (s .pre .1 .1) (w .1 .result) (w .1 .ensures) (λ q. w .0 .taken (c .before .end-state .ensures ∙ q)) (w .3 .result) (w .3 .ensures .0) (g .sums .now) (w .3 .last .1 .1 .1 .0) (w .3 .kept .1 .1 .1 .0 ∙ s .pre .1 .2) (w .3 .ensures .1))),
+    ))
+    (λ w. (
+      w .2 ∙ hanging-sum (g .net .now) (g .heads .now) (g .nexts .now) (s .pre .1 .0) (g .entered) (g .levels) (s .pre .1 .1) (sym (c .before .end-state .ensures) ∙ w .0 .left),
+      subst (λ z. Filled N (λ d. d ≡ codeEnd (g .entered)) (g .sums .now) (set z at (c .if1 .sum))) (sym (w .1))
+          (subst (λ z. Filled N (λ d. d ≡ codeEnd (g .entered)) (g .sums .now) (set (g .sums .now) at z)) (sym (w .2)) (hanging-filled (g .net .now) (g .heads .now) (g .nexts .now) (s .pre .1 .0) (g .entered) (g .levels) (s .pre .1 .1) (sym (c .before .end-state .ensures) ∙ w .0 .left) (g .sums .now) (s .pre .1 .2))),
+    ))
+    (c .if1 .came)
+
+abbrev station-sum-Inv-loop : station-sum-lts.InvT-loop
+station-sum-Inv-loop net heads nexts sums₀ came station levels total₀ end₀ sums total end = (length sums ≡ length sums₀) × Part (networkIn net) nexts came station levels end total sums₀ sums
+
+abbrev station-sum-μ-loop : station-sum-lts.MeasureT-loop
+station-sum-μ-loop net heads nexts sums₀ came station levels total₀ end₀ sums total end = mostLeft end
+
+-- src/lib.rt:26:9
+station-sum-customers-requires : (t : ℕ) → station-sum-lts.Need-customers-requires (
+  customers-reads.Asked,
+  customers-reads.Learnt,
+  line-sum-below t,
+  line-sum.Post,
+) (station-sum-at t) station-sum.Post station-sum-Inv-loop station-sum-μ-loop
+station-sum-customers-requires t c κs =
+    let s = c .before in
+    let g = s .args in
+    record { fits = read-fits (networkIn (g .net .now)) (s .pre .1 .0 .read); low = s .pre .1 .1 .low; high = s .pre .1 .1 .high }
+
+-- src/lib.rt:27:25
+station-sum-sub-end : (t : ℕ) → station-sum-lts.Need-sub-end (
+  customers-reads.Asked,
+  customers-reads.Learnt,
+  line-sum-below t,
+  line-sum.Post,
+) (station-sum-at t) station-sum.Post station-sum-Inv-loop station-sum-μ-loop
+station-sum-sub-end t c =
+    let s = c .before .before in
+    let g = s .args in
+    omega (arith, read-fits (networkIn (g .net .now)) (s .pre .1 .0 .read) .stations, s .pre .1 .1 .low, s .pre .1 .1 .high)
+
+-- src/lib.rt:27:19
+station-sum-mul-end : (t : ℕ) → station-sum-lts.Need-mul-end (
+  customers-reads.Asked,
+  customers-reads.Learnt,
+  line-sum-below t,
+  line-sum.Post,
+) (station-sum-at t) station-sum.Post station-sum-Inv-loop station-sum-μ-loop
+station-sum-mul-end t c =
+    let s = c .before .before in
+    let g = s .args in
+    omega (arith, read-fits (networkIn (g .net .now)) (s .pre .1 .0 .read) .stations, s .pre .1 .1 .low, s .pre .1 .1 .high)
+
+-- src/lib.rt:27:19
+station-sum-element-copy-out-end : (t : ℕ) → station-sum-lts.Need-element-copy-out-end (
+  customers-reads.Asked,
+  customers-reads.Learnt,
+  line-sum-below t,
+  line-sum.Post,
+) (station-sum-at t) station-sum.Post station-sum-Inv-loop station-sum-μ-loop
+station-sum-element-copy-out-end t c =
+    let s = c .before .before in
+    let g = s .args in
+    omega (arith, read-fits (networkIn (g .net .now)) (s .pre .1 .0 .read) .stations, s .pre .1 .1 .low, s .pre .1 .1 .high)
+
+-- src/lib.rt:28:5
+station-sum-loop-holds : (t : ℕ) → station-sum-lts.Need-loop-holds (
+  customers-reads.Asked,
+  customers-reads.Learnt,
+  line-sum-below t,
+  line-sum.Post,
+) (station-sum-at t) station-sum.Post station-sum-Inv-loop station-sum-μ-loop
+station-sum-loop-holds t c =
+    let s = c .before .before .before in
+    let g = s .args in (
+      refl,
+      subst (λ n. Part (networkIn (g .net .now)) (g .nexts .now) (g .came) (g .station) (g .levels) (getD (g .heads .now) (g .station - 1) 0) n (g .sums .now) (g .sums .now)) (sym (c .before .customers .ensures))
+          (part-start (networkIn (g .net .now)) (s .pre .1 .0 .read) (s .pre .1 .0 .rules) (g .heads .now) (g .nexts .now) (s .pre .1 .0 .linked) (g .came) (g .station) (g .levels) (s .pre .1 .1) (g .sums .now)),
+    )
+
+-- src/lib.rt:30:68
+station-sum-sub-line-sum : (t : ℕ) → station-sum-lts.Need-sub-line-sum (
+  customers-reads.Asked,
+  customers-reads.Learnt,
+  line-sum-below t,
+  line-sum.Post,
+) (station-sum-at t) station-sum.Post station-sum-Inv-loop station-sum-μ-loop
+station-sum-sub-line-sum t c =
+    let s = c .before .before .before .before .before .before .before in
+    let g = s .args in
+    station-levels (networkIn (g .net .now)) (s .pre .1 .0 .read) (s .pre .1 .0 .rules) (codeEnd (g .came)) (g .station) (g .levels) (s .pre .1 .1)
+
+-- src/lib.rt:30:29
+station-sum-line-sum-requires : (t : ℕ) → station-sum-lts.Need-line-sum-requires (
+  customers-reads.Asked,
+  customers-reads.Learnt,
+  line-sum-below t,
+  line-sum.Post,
+) (station-sum-at t) station-sum.Post station-sum-Inv-loop station-sum-μ-loop
+station-sum-line-sum-requires t c κs =
+    let s = c .before .before .before .before .before .before .before in
+    let g = s .args in
+    let h = c .before .before .before .loop in (
+      omega (arith, s .pre .0, station-levels (networkIn (g .net .now)) (s .pre .1 .0 .read) (s .pre .1 .0 .rules) (codeEnd (g .came)) (g .station) (g .levels) (s .pre .1 .1)),
+      (
+        s .pre .1 .0,
+        at-line (networkIn (g .net .now)) (s .pre .1 .0 .read) (s .pre .1 .0 .rules) (codeEnd (g .came)) (g .station) (g .levels) (s .pre .1 .1) (codeEnd (h .end)) (part-leaves (networkIn (g .net .now)) (g .nexts .now) (g .came) (g .station) (g .levels) (h .end) (h .total) (g .sums .now) (h .sums) (h .inv .1) (c .before .before .loop-test .taken) (c .before .if1 .taken)),
+        h .inv .0 ∙ s .pre .1 .2,
+      ),
+    )
+
+-- src/lib.rt:30:21
+station-sum-add-total : (t : ℕ) → station-sum-lts.Need-add-total (
+  customers-reads.Asked,
+  customers-reads.Learnt,
+  line-sum-below t,
+  line-sum.Post,
+) (station-sum-at t) station-sum.Post station-sum-Inv-loop station-sum-μ-loop
+station-sum-add-total t c =
+    let s = c .before .before .before .before .before .before .before .before .before .before in
+    let g = s .args in
+    let h = c .before .before .before .before .before .before .loop in
+    omega (
+      arith,
+      c .before .before .line-sum .ensures .0,
+      part-fits (networkIn (g .net .now)) (g .nexts .now) (g .came) (g .station) (g .levels) (h .end) (h .total) (g .sums .now) (h .sums) (h .inv .1) (c .before .before .before .before .before .loop-test .taken) (c .before .before .before .before .if1 .taken),
+      station-size (networkIn (g .net .now)) (s .pre .1 .0 .read) (s .pre .1 .0 .rules) (codeEnd (g .came)) (g .station) (g .levels) (s .pre .1 .1),
+    )
+
+-- src/lib.rt:32:21
+station-sum-sub-end-2 : (t : ℕ) → station-sum-lts.Need-sub-end-2 (
+  customers-reads.Asked,
+  customers-reads.Learnt,
+  line-sum-below t,
+  line-sum.Post,
+) (station-sum-at t) station-sum.Post station-sum-Inv-loop station-sum-μ-loop
+station-sum-sub-end-2 t c =
+    let s = c .before .before .before .before .before .before in
+    let g = s .args in
+    let h = c .before .before .loop in
+    omega (arith, part-code (networkIn (g .net .now)) (g .nexts .now) (g .came) (g .station) (g .levels) (h .end) (h .total) (g .sums .now) (h .sums) (h .inv .1) (c .before .loop-test .taken), read-fits (networkIn (g .net .now)) (s .pre .1 .0 .read) .lines)
+
+-- src/lib.rt:32:15
+station-sum-mul-end-2 : (t : ℕ) → station-sum-lts.Need-mul-end-2 (
+  customers-reads.Asked,
+  customers-reads.Learnt,
+  line-sum-below t,
+  line-sum.Post,
+) (station-sum-at t) station-sum.Post station-sum-Inv-loop station-sum-μ-loop
+station-sum-mul-end-2 t c =
+    let s = c .before .before .before .before .before .before in
+    let g = s .args in
+    let h = c .before .before .loop in
+    omega (arith, part-code (networkIn (g .net .now)) (g .nexts .now) (g .came) (g .station) (g .levels) (h .end) (h .total) (g .sums .now) (h .sums) (h .inv .1) (c .before .loop-test .taken), read-fits (networkIn (g .net .now)) (s .pre .1 .0 .read) .lines)
+
+-- src/lib.rt:32:15
+station-sum-element-copy-out-end-2 : (t : ℕ) → station-sum-lts.Need-element-copy-out-end-2 (
+  customers-reads.Asked,
+  customers-reads.Learnt,
+  line-sum-below t,
+  line-sum.Post,
+) (station-sum-at t) station-sum.Post station-sum-Inv-loop station-sum-μ-loop
+station-sum-element-copy-out-end-2 t c =
+    let s = c .before .before .before .before .before .before in
+    let g = s .args in
+    let h = c .before .before .loop in
+    omega (arith, part-code (networkIn (g .net .now)) (g .nexts .now) (g .came) (g .station) (g .levels) (h .end) (h .total) (g .sums .now) (h .sums) (h .inv .1) (c .before .loop-test .taken), read-fits (networkIn (g .net .now)) (s .pre .1 .0 .read) .lines)
+
+-- src/lib.rt:28:5
+station-sum-loop-less : (t : ℕ) → station-sum-lts.Need-loop-less (
+  customers-reads.Asked,
+  customers-reads.Learnt,
+  line-sum-below t,
+  line-sum.Post,
+) (station-sum-at t) station-sum.Post station-sum-Inv-loop station-sum-μ-loop
+station-sum-loop-less t c =
+    let s = c .before .before .before .before .before .before .before in
+    let g = s .args in
+    let h = c .before .before .before .loop in
+    part-less (networkIn (g .net .now)) (g .nexts .now) (g .came) (g .station) (g .levels) (h .end) (h .total) (g .sums .now) (h .sums) (h .inv .1) (c .before .before .loop-test .taken) (read-fits (networkIn (g .net .now)) (s .pre .1 .0 .read) .lines)
+
+-- src/lib.rt:28:5
+station-sum-loop-again : (t : ℕ) → station-sum-lts.Need-loop-again (
+  customers-reads.Asked,
+  customers-reads.Learnt,
+  line-sum-below t,
+  line-sum.Post,
+) (station-sum-at t) station-sum.Post station-sum-Inv-loop station-sum-μ-loop
+station-sum-loop-again t c =
+    let s = c .before .before .before .before .before .before .before in
+    let g = s .args in
+    let h = c .before .before .before .loop in
+    let z = c .before .before .loop-test .taken in
+    let j = c .before .if1 in
+    ⊎-elim
+    (λ w. (
+      ap length (w .5) ∙ w .2 .kept .1 .1 .1 .0 ∙ h .inv .0,
+      subst (λ x. Part (networkIn (g .net .now)) (g .nexts .now) (g .came) (g .station) (g .levels) (getD (g .nexts .now) (h .end - 1) 0) (j .total) (g .sums .now) x) (sym (w .5))
+          (subst (λ x. Part (networkIn (g .net .now)) (g .nexts .now) (g .came) (g .station) (g .levels) (getD (g .nexts .now) (h .end - 1) 0) x (g .sums .now) (w .2 .last .1 .1 .1 .0)) (sym (w .6))
+          (part-more (networkIn (g .net .now)) (g .nexts .now) (g .came) (g .station) (g .levels) (h .end) (h .total) (g .sums .now) (h .sums) (h .inv .1) z (w .0 .taken) (w .2 .result) (w .2 .last .1 .1 .1 .0) (w .2 .ensures .0) (w .2 .ensures .1))),
+    ))
+    (λ w. (
+      ap length (w .1) ∙ h .inv .0,
+      subst (λ x. Part (networkIn (g .net .now)) (g .nexts .now) (g .came) (g .station) (g .levels) (getD (g .nexts .now) (h .end - 1) 0) (j .total) (g .sums .now) x) (sym (w .1))
+          (subst (λ x. Part (networkIn (g .net .now)) (g .nexts .now) (g .came) (g .station) (g .levels) (getD (g .nexts .now) (h .end - 1) 0) x (g .sums .now) (h .sums)) (sym (w .2)) (part-skip (networkIn (g .net .now)) (g .nexts .now) (g .came) (g .station) (g .levels) (h .end) (h .total) (g .sums .now) (h .sums) (h .inv .1) z (w .0 .left))),
+    ))
+    (j .came)
+
+-- src/lib.rt:22:1
+station-sum-same-length : (t : ℕ) → station-sum-lts.Need-same-length (
+  customers-reads.Asked,
+  customers-reads.Learnt,
+  line-sum-below t,
+  line-sum.Post,
+) (station-sum-at t) station-sum.Post station-sum-Inv-loop station-sum-μ-loop
+station-sum-same-length t c = c .before .loop .inv .0
+
+-- src/lib.rt:22:1
+station-sum-returns : (t : ℕ) → station-sum-lts.Need-returns (
+  customers-reads.Asked,
+  customers-reads.Learnt,
+  line-sum-below t,
+  line-sum.Post,
+) (station-sum-at t) station-sum.Post station-sum-Inv-loop station-sum-μ-loop
+station-sum-returns t c =
+    let s = c .before .before .before .before .before in
+    let g = s .args in
+    let h = c .before .loop in
+    (part-sum (networkIn (g .net .now)) (g .nexts .now) (g .came) (g .station) (g .levels) (h .end) (h .total) (g .sums .now) (h .sums) (h .inv .1) (c .loop-test .left), part-filled (networkIn (g .net .now)) (g .nexts .now) (g .came) (g .station) (g .levels) (h .end) (h .total) (g .sums .now) (h .sums) (h .inv .1) (c .loop-test .left))
+
+pub +line-sum+station-sum-spec : {M : Type 1} → statement M
++line-sum+station-sum-spec = close μ-line-sum μ-station-sum (λ t. line-sum-lts.spec (
+  end-state-reads.Asked,
+  end-state-reads.Learnt,
+  end-station-reads.Asked,
+  end-station-reads.Learnt,
+  station-sum-below t,
+  station-sum.Post,
+)
+    (line-sum-at t)
+    line-sum.Post
+    (line-sum-add-line t)
+    (line-sum-add-side t)
+    (line-sum-end-state-requires t)
+    (line-sum-end-station-requires t)
+    (line-sum-mul-station-sum t)
+    (line-sum-add-station-sum t)
+    (line-sum-sub-station-sum t)
+    (line-sum-sub-station-sum-2 t)
+    (line-sum-station-sum-requires t)
+    (line-sum-sub-sums t)
+    (line-sum-mul-sums t)
+    (line-sum-slice-write-sums t)
+    (line-sum-same-length t)
+    (line-sum-returns t))
+    λ t. station-sum-lts.spec
+    (customers-reads.Asked, customers-reads.Learnt, line-sum-below t, line-sum.Post)
+    (station-sum-at t)
+    station-sum.Post
+    station-sum-Inv-loop
+    station-sum-μ-loop
+    (station-sum-customers-requires t)
+    (station-sum-sub-end t)
+    (station-sum-mul-end t)
+    (station-sum-element-copy-out-end t)
+    (station-sum-loop-holds t)
+    (station-sum-sub-line-sum t)
+    (station-sum-line-sum-requires t)
+    (station-sum-add-total t)
+    (station-sum-sub-end-2 t)
+    (station-sum-mul-end-2 t)
+    (station-sum-element-copy-out-end-2 t)
+    (station-sum-loop-less t)
+    (station-sum-loop-again t)
+    (station-sum-same-length t)
+    (station-sum-returns t)

@@ -1,0 +1,7 @@
+pub mod Totals
+pub mod Tripping
+pub mod Order
+pub mod Paths
+pub mod Filling
+pub mod Chains
+pub mod Calls
