@@ -5,3 +5,4 @@ pub mod Paths
 pub mod Filling
 pub mod Chains
 pub mod Calls
+pub mod HVStations

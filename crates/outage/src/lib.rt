@@ -4,11 +4,13 @@ ghost use Prim.Native.Nat.{ℕ, _-_, _≤_};
 ghost use lib.ListN.{length, getD};
 ghost use Rattle.model.specs.Paths.{state};
 ghost use Rattle.model.specs.Outage.{impact, outageAmount, total};
+ghost use Rattle.theory.specs.Reading.{Read};
+ghost use Rattle.theory.specs.Radial.{Rules};
 ghost use Rattle.theory.specs.Sizes.{Sized};
 ghost use Rattle.buffer.specs.Buffer.{networkIn};
 ghost use Rattle.buffer.specs.Fits.{Fits, LineThere, EndThere, endIn};
 ghost use Rattle.theory.specs.Behind.{stationSum, lineSum};
-ghost use Rattle.tree.specs.Linked.{codeEnd};
+ghost use Rattle.tree.specs.Linked.{codeEnd, Linked};
 ghost use Rattle.tree.specs.Outwards.{Outwards};
 ghost use Rattle.outage.specs.Feeding.{Feeds, Known};
 ghost use Rattle.outage.specs.Below.{Ready, Leaves, AtLine, AtStation, Filled};
@@ -72,6 +74,32 @@ fn line_sum(
     }
     sums[line - 1] = sum;
     sum
+}
+
+// The customers behind each line, from the HV stations outwards.
+fn sums_outwards(net: &[u64; 5129], heads: &[u64; 512], nexts: &[u64; 1536], sums: &mut [u64])
+    requires { ⌜ Ready (networkIn (now net)) (now heads) (now nexts) × (length (now sums) ≡ 768) ⌝ }
+    ensures { λ r. ⌜ HoldsCustomers (networkIn (now (net .entry))) (now (sums .exit)) ⌝ }
+{
+    let levels = 2 * buffer::lines(net) + 1;
+    for station in 1..buffer::stations(net) + 1 {
+        if buffer::is_hv(net, station) {
+            station_sum(net, heads, nexts, sums, 0, station, levels);
+        }
+    }
+}
+
+// The customers behind each line.
+pub fn customers_behind(
+    net: &[u64; 5129],
+    heads: &[u64; 512],
+    nexts: &[u64; 1536],
+    sums: &mut [u64; 768],
+)
+    requires { ⌜ Read (networkIn (now net)) × Rules (networkIn (now net)) × Linked (networkIn (now net)) (now heads) (now nexts) ⌝ }
+    ensures { λ r. ⌜ HoldsCustomers (networkIn (now (net .entry))) (now (sums .exit)) ⌝ }
+{
+    sums_outwards(net, heads, nexts, sums);
 }
 
 // The state of the near end of a line.

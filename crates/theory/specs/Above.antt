@@ -23,7 +23,7 @@ use Rattle.theory.specs.Radial.{Rules, In, Root, joins-in, root-in}
 use Rattle.theory.specs.Forest.{path-home, path-only}
 
 -- the breakers on a path, counted
-breakers-count : (N : Network) (es : List End) → breakersOn N es ≡ countOf (λ e. isBreaker N e) es
+pub breakers-count : (N : Network) (es : List End) → breakersOn N es ≡ countOf (λ e. isBreaker N e) es
 unfolding breakersOn keep
 breakers-count N [] = refl
 breakers-count N (e ∷ es) = go (isBreaker N e) (keep (λ e. isBreaker N e) es) (breakers-count N es)

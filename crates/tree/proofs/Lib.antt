@@ -6,3 +6,4 @@ pub mod Following
 pub mod Leaving
 pub mod Laying
 pub mod Queueing
+pub mod Counting

@@ -4,14 +4,18 @@ ghost use mathlib.Core.Path.{_≡_};
 ghost use mathlib.Core.Bool.{not};
 ghost use mathlib.Core.List.{List, []};
 ghost use lib.ListN.{length, getD, take};
-ghost use Rattle.model.specs.Paths.{End, isOpen, stationAt};
+ghost use Rattle.model.specs.Paths.{End, isBreaker, isOpen, stationAt};
+ghost use Rattle.model.specs.Rules.{seriesBroken};
+ghost use Rattle.graphs.specs.Sum.{on};
 ghost use Rattle.theory.specs.Reading.{Read};
 ghost use Rattle.theory.specs.Radial.{Rules};
 ghost use Rattle.buffer.specs.Buffer.{networkIn};
+ghost use Rattle.buffer.specs.Fits.{EndThere, endIn};
 ghost use Rattle.tree.specs.Linked.{codeEnd, Chain, Linked};
 ghost use Rattle.tree.specs.Outwards.{Outwards};
 ghost use Rattle.tree.specs.Codes.{CodeThere};
 ghost use Rattle.tree.specs.Queue.{leaving, Room, Added, Queue, Reached};
+ghost use Rattle.tree.specs.Counts.{pathBreakers, Fed};
 
 // Whether the end with a code is closed.
 fn is_closed(net: &[u64; 5129], code: usize) -> bool
@@ -166,4 +170,63 @@ pub fn outwards(
         n = from_line(net, heads, nexts, near, feed, order, i, n);
         i += 1;
     }
+}
+
+// 1 if an end, 1 or 2, of a line is a breaker, and 0 if not.
+fn breaker(net: &[u64; 5129], line: usize, side: usize) -> u64
+    requires { ⌜ EndThere (now net) line side ⌝ }
+    ensures { λ r. ⌜ (r ≡ on (isBreaker (networkIn (now (net .entry))) (endIn line side)) 1) × (r ≤ 1) ⌝ }
+{
+    if buffer::end_state(net, line, side) == 1 {
+        1
+    } else {
+        0
+    }
+}
+
+// The breakers on a line's path to the HV station, from those on the path of the line that feeds it.
+fn path_breakers(
+    net: &[u64; 5129],
+    near: &[u64; 768],
+    feed: &[u64; 768],
+    counts: &[u64; 768],
+    line: usize,
+) -> u64
+    requires { ⌜ Read (networkIn (now net)) × Rules (networkIn (now net)) × Fed (networkIn (now net)) (now near) (now feed) (now counts) line ⌝ }
+    ensures { λ r. ⌜ (r ≡ pathBreakers (networkIn (now (net .entry))) line) × (r ≤ 10) ⌝ }
+{
+    let own = breaker(net, line, near[line - 1] as usize);
+    let fed = feed[line - 1] as usize;
+    if fed == 0 {
+        return own;
+    }
+    own + breaker(net, fed, 3 - near[fed - 1] as usize) + counts[fed - 1]
+}
+
+// No breaker is counted.
+fn no_counts() -> [u64; 768] {
+    [0; 768]
+}
+
+// Whether a path from an HV station passes more breakers than the series rule allows.
+pub fn over_series(
+    net: &[u64; 5129],
+    near: &[u64; 768],
+    feed: &[u64; 768],
+    order: &[u64; 768],
+) -> bool
+    requires { ⌜ Read (networkIn (now net)) × Rules (networkIn (now net)) × Outwards (networkIn (now net)) (now near) (now feed) (now order) ⌝ }
+    ensures { λ r. ⌜ r ≡ seriesBroken (networkIn (now (net .entry))) ⌝ }
+{
+    let series = net[3];
+    let mut counts = no_counts();
+    for i in 0..buffer::lines(net) {
+        let line = order[i] as usize;
+        let count = path_breakers(net, near, feed, &counts, line);
+        if series < count + breaker(net, line, 3 - near[line - 1] as usize) {
+            return true;
+        }
+        counts[line - 1] = count;
+    }
+    false
 }

@@ -1,0 +1,58 @@
+use Rattle.engine.proofs.Loads.{check-says}
+use borrow.Author.Needs.{needs}
+use Rattle.engine.proofs.check.Statement.{statement}
+use Rattle.engine.proofs.check.Tie as tie
+use Rattle.engine.proofs.check.Reads as reads
+use Rattle.engine.proofs.check.Lts as lts
+use Rattle.engine.proofs.labels_space.Reads as labels-space-reads
+use Rattle.engine.proofs.lines_space.Reads as lines-space-reads
+use Rattle.engine.proofs.load.Reads as load-reads
+use Rattle.engine.proofs.net_space.Reads as net-space-reads
+use Rattle.engine.proofs.nexts_space.Reads as nexts-space-reads
+
+-- src/lib.rt:120:19
+net-space-requires : tie.Need-net-space-requires
+net-space-requires c κs = search needs
+
+-- src/lib.rt:121:21
+labels-space-requires : tie.Need-labels-space-requires
+labels-space-requires c κs = search needs
+
+-- src/lib.rt:122:21
+nexts-space-requires : tie.Need-nexts-space-requires
+nexts-space-requires c κs = search needs
+
+-- src/lib.rt:123:20
+lines-space-requires : tie.Need-lines-space-requires
+lines-space-requires c κs = search needs
+
+-- src/lib.rt:124:20
+lines-space-requires-2 : tie.Need-lines-space-requires-2
+lines-space-requires-2 c κs = search needs
+
+-- src/lib.rt:125:21
+lines-space-requires-3 : tie.Need-lines-space-requires-3
+lines-space-requires-3 c κs = search needs
+
+-- src/lib.rt:126:5
+load-requires : tie.Need-load-requires
+load-requires c κs = search needs
+
+-- src/lib.rt:117:1
+returns : tie.Need-returns
+returns c =
+    let a = c .before .before .before .before .before .before .before .before .before .before .before .before .before .before .args in
+    check-says (a .file .now) (c .load .last .1 .0) (c .load .result) (c .load .ensures .0)
+
+pub check-spec : {M : Type 1} → statement M
+check-spec =
+    tie.close
+    (tie.spec
+    net-space-requires
+    labels-space-requires
+    nexts-space-requires
+    lines-space-requires
+    lines-space-requires-2
+    lines-space-requires-3
+    load-requires
+    returns)

@@ -1,0 +1,158 @@
+use borrow.Author.Needs.{needs}
+use Prim.Native.Nat.{_+_, _*_, _-_, _≤_}
+use mathlib.Core.Path.{_≡_, refl, sym, ap, _∙_, subst}
+use mathlib.Core.Logic.{⊎-elim}
+use native.Mathlib.Omega.{arith}
+use lib.ListN.{length}
+use Rattle.buffer.specs.Buffer.{networkIn}
+use Rattle.tree.specs.Linked.{codeEnd}
+use Rattle.outage.specs.Below.{Filled}
+use Rattle.outage.proofs.Paths.{at-hv}
+use Rattle.outage.proofs.Chains.{closed-length}
+use Rattle.outage.proofs.Calls.{read-fits}
+use Rattle.outage.proofs.HVStations.{AtHV, hv-none, hv-skip, hv-more, hv-all}
+use Rattle.outage.proofs.sums_outwards.Statement.{statement}
+use Rattle.outage.proofs.sums_outwards.Tie as tie
+use Rattle.outage.proofs.sums_outwards.Reads as reads
+use Rattle.outage.proofs.sums_outwards.Lts as lts
+use Rattle.buffer.proofs.is_hv.Reads as is-hv-reads
+use Rattle.buffer.proofs.lines.Reads as lines-reads
+use Rattle.buffer.proofs.stations.Reads as stations-reads
+use Rattle.outage.proofs.station_sum.Reads as station-sum-reads
+
+abbrev Inv-loop : tie.InvT-loop
+Inv-loop net heads nexts sums₀ levels station₀ station-end sums station =
+    (station-end ≡ length (networkIn net .stations) + 1) × (1 ≤ station) × (station ≤ station-end) × (length sums ≡ length sums₀) × Filled (networkIn net) (AtHV (networkIn net) station) sums₀ sums
+
+abbrev μ-loop : tie.MeasureT-loop
+μ-loop net heads nexts sums₀ levels station₀ station-end sums station = station-end - station
+
+-- src/lib.rt:82:22
+lines-requires : tie.Need-lines-requires Inv-loop μ-loop
+lines-requires c κs = search needs
+
+-- src/lib.rt:82:18
+mul-levels : tie.Need-mul-levels Inv-loop μ-loop
+mul-levels c =
+    let s = c .before .before in
+    let g = s .args in
+    let N = networkIn (g .net .now) in
+    omega (arith, read-fits N (s .pre .0 .read) .lines)
+
+-- src/lib.rt:82:18
+add-levels : tie.Need-add-levels Inv-loop μ-loop
+add-levels c =
+    let s = c .before .before in
+    let g = s .args in
+    let N = networkIn (g .net .now) in
+    omega (arith, read-fits N (s .pre .0 .read) .lines)
+
+-- src/lib.rt:83:23
+stations-requires : tie.Need-stations-requires Inv-loop μ-loop
+stations-requires c κs = search needs
+
+-- src/lib.rt:83:23
+add-station-end : tie.Need-add-station-end Inv-loop μ-loop
+add-station-end c =
+    let s = c .before .before .before in
+    let g = s .args in
+    let N = networkIn (g .net .now) in
+    omega (arith, read-fits N (s .pre .0 .read) .stations)
+
+-- src/lib.rt:83:5
+loop-holds : tie.Need-loop-holds Inv-loop μ-loop
+loop-holds c =
+    let s = c .before .before .before in
+    let g = s .args in
+    let N = networkIn (g .net .now) in
+    (omega arith, omega arith, omega arith, refl, hv-none N (g .sums .now) (s .pre .0 .read))
+
+-- src/lib.rt:84:12
+is-hv-requires : tie.Need-is-hv-requires Inv-loop μ-loop
+is-hv-requires c κs =
+    let s = c .before .before .before .before .before in
+    let g = s .args in
+    let N = networkIn (g .net .now) in
+    record { fits = read-fits N (s .pre .0 .read); low = omega arith; high = omega arith }
+
+-- src/lib.rt:85:13
+station-sum-requires : tie.Need-station-sum-requires Inv-loop μ-loop
+station-sum-requires c κs =
+    let s = c .before .before .before .before .before .before .before .before in
+    let g = s .args in
+    let N = networkIn (g .net .now) in
+    let h = c .before .before .before .before .loop in (
+      s .pre .0,
+      at-hv N (s .pre .0 .read) (s .pre .0 .rules) (codeEnd 0) (h .station) (2 * c .before .before .before .before .before .before .lines .result + 1) (sym (c .before .before .is-hv .ensures) ∙ c .before .if1 .taken) (omega (arith, closed-length N, c .before .before .before .before .before .before .lines .ensures)),
+      h .inv .3 ∙ s .pre .1,
+    )
+
+-- src/lib.rt:83:9
+add-station : tie.Need-add-station Inv-loop μ-loop
+add-station c =
+    let s = c .before .before .before .before .before .before .before in
+    let g = s .args in
+    let N = networkIn (g .net .now) in
+    omega (arith, read-fits N (s .pre .0 .read) .stations)
+
+-- src/lib.rt:83:5
+loop-less : tie.Need-loop-less Inv-loop μ-loop
+loop-less c = omega arith
+
+-- src/lib.rt:83:5
+loop-again : tie.Need-loop-again Inv-loop μ-loop
+loop-again c =
+    let s = c .before .before .before .before .before .before .before in
+    let g = s .args in
+    let N = networkIn (g .net .now) in
+    let h = c .before .before .before .loop in
+    let i = c .before .is-hv .ensures in
+    ⊎-elim
+    (λ w. (
+      omega arith,
+      omega arith,
+      omega arith,
+      ap length (w .5) ∙ w .2 .kept .1 .1 .1 .0 ∙ h .inv .3,
+      subst (Filled N (AtHV N (h .station + 1)) (g .sums .now)) (sym (w .5)) (hv-more N (g .sums .now) (h .sums) (h .station) (h .inv .4) (w .2 .last .1 .1 .1 .0) (w .2 .ensures .1)),
+    ))
+    (λ w. (
+      omega arith,
+      omega arith,
+      omega arith,
+      ap length (w .1) ∙ h .inv .3,
+      subst (Filled N (AtHV N (h .station + 1)) (g .sums .now)) (sym (w .1)) (hv-skip N (g .sums .now) (h .sums) (h .station) (h .inv .4) (sym i ∙ w .0 .left)),
+    ))
+    (c .if1 .came)
+
+-- src/lib.rt:78:1
+same-length : tie.Need-same-length Inv-loop μ-loop
+same-length c = c .before .loop .inv .3
+
+-- src/lib.rt:78:1
+returns : tie.Need-returns Inv-loop μ-loop
+returns c =
+    let s = c .before .before .before .before .before in
+    let g = s .args in
+    let N = networkIn (g .net .now) in
+    let h = c .before .loop in
+    hv-all N (g .sums .now) (s .pre .0 .read) (s .pre .0 .rules) (h .sums) (h .station) (omega arith) (h .inv .4)
+
+pub sums-outwards-spec : {M : Type 1} → statement M
+sums-outwards-spec =
+    tie.close
+    (tie.spec
+    Inv-loop
+    μ-loop
+    lines-requires
+    mul-levels
+    add-levels
+    stations-requires
+    add-station-end
+    loop-holds
+    is-hv-requires
+    station-sum-requires
+    add-station
+    loop-less
+    loop-again
+    same-length
+    returns)
