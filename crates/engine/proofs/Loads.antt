@@ -9,6 +9,7 @@ use Rattle.model.specs.Rules.{radial, accepted}
 use Rattle.model.specs.Calls.{checked, checkSays}
 use Rattle.model.specs.declared.CheckAnswer.{CheckAnswer}
 use Rattle.theory.specs.Reading.{Read, network-read}
+use Rattle.theory.specs.Best.{Accepted, accepted-is}
 use Rattle.buffer.specs.Buffer.{networkIn}
 use Rattle.reader.specs.Says.{readSays}
 use Rattle.reader.specs.declared.ReadAnswer.{ReadAnswer}
@@ -36,6 +37,13 @@ module _ (file b : List ℕ) where
   unfolding loaded before
   answered next CheckAnswer.Accepted h = ap (λ a. a >>= next) h
   answered next (CheckAnswer.Refused n i) h = ap (λ a. a >>= next) h
+
+  pub same-answer : {s : CheckAnswer} (r : CheckAnswer) → loaded r b ≡ accepted file → r ≡ s → loaded s b ≡ accepted file
+  same-answer r h e = ap (λ x. loaded x b) (sym e) ∙ h
+
+  pub accepted-holds : (r : CheckAnswer) → loaded r b ≡ accepted file → r ≡ CheckAnswer.Accepted → Accepted (networkIn b)
+  unfolding loaded before
+  accepted-holds r h e = accepted-is file (networkIn b) (sym (same-answer r h e))
 
   pub check-says : (r : CheckAnswer) → loaded r b ≡ accepted file → checkSays r ≡ checked file
   unfolding checkSays checked before

@@ -6,9 +6,13 @@ ghost use Rattle.theory.specs.Reading.{Read};
 ghost use Rattle.theory.specs.Radial.{Rules};
 ghost use Rattle.buffer.specs.Buffer.{networkIn};
 ghost use Rattle.model.specs.Rules.{radial, accepted};
-ghost use Rattle.model.specs.Calls.{checked, checkSays};
+ghost use Rattle.model.specs.Calls.{checked, checkSays, impactAnswered, impactSays, totalled, totalSays};
+ghost use Rattle.theory.specs.Best.{Accepted};
+ghost use Rattle.outage.specs.Held.{HoldsImpacts};
 ghost use Rattle.engine.specs.Loading.{forest, before, loaded, Prepared};
 use model::CheckAnswer;
+use model::ImpactAnswer;
+use model::TotalAnswer;
 use reader::ReadAnswer;
 
 // The rules 4 to 8 in turn.
@@ -129,6 +133,90 @@ pub fn check(file: &[u8]) -> CheckAnswer
         &mut feed,
         &mut order,
     )
+}
+
+// The impact of a fault on each line of an accepted network.
+fn impacts(
+    net: &[u64; 5129],
+    heads: &[u64; 512],
+    nexts: &[u64; 1536],
+    near: &[u64; 768],
+    feed: &[u64; 768],
+    order: &[u64; 768],
+    out: &mut [u64; 768],
+)
+    requires { ⌜ Accepted (networkIn (now net)) × Prepared (networkIn (now net)) (now heads) (now nexts) (now near) (now feed) (now order) ⌝ }
+    ensures { λ r. ⌜ HoldsImpacts (networkIn (now (net .entry))) (now (out .exit)) ⌝ }
+{
+    let mut sums = lines_space();
+    outage::customers_behind(net, heads, nexts, &mut sums);
+    outage::impacts(net, near, feed, order, &sums, out);
+}
+
+// Reads and checks a file. Where it is accepted, its network and the impact of a fault on each line are left in the buffers.
+fn load_impacts(file: &[u8], net: &mut [u64; 5129], out: &mut [u64; 768]) -> CheckAnswer
+    ensures { λ r. ⌜ loaded r (now (net .exit)) ≡ accepted (now (file .entry)) ⌝ }
+    ensures { λ r. ⌜ (r ≡ CheckAnswer.Accepted → HoldsImpacts (networkIn (now (net .exit))) (now (out .exit))) ⌝ }
+{
+    let mut heads = labels_space();
+    let mut nexts = nexts_space();
+    let mut near = lines_space();
+    let mut feed = lines_space();
+    let mut order = lines_space();
+    match load(
+        file,
+        net,
+        &mut heads,
+        &mut nexts,
+        &mut near,
+        &mut feed,
+        &mut order,
+    ) {
+        CheckAnswer::Refused { number, record } => CheckAnswer::Refused { number, record },
+        CheckAnswer::Accepted => {
+            impacts(net, &heads, &nexts, &near, &feed, &order, out);
+            CheckAnswer::Accepted
+        }
+    }
+}
+
+// Impact: the customers that a fault on a line cuts off.
+pub fn impact(file: &[u8], line: u64) -> ImpactAnswer
+    ensures { λ r. ⌜ impactSays r ≡ impactAnswered (now (file .entry)) line ⌝ }
+{
+    let mut net = net_space();
+    let mut impacts = lines_space();
+    match load_impacts(file, &mut net, &mut impacts) {
+        CheckAnswer::Refused { number, record } => ImpactAnswer::Refused { number, record },
+        CheckAnswer::Accepted => {
+            if 1 <= line && line <= buffer::lines(&net) as u64 {
+                ImpactAnswer::Customers(impacts[line as usize - 1])
+            } else {
+                ImpactAnswer::Refused {
+                    number: 2,
+                    record: 0,
+                }
+            }
+        }
+    }
+}
+
+// Total: the outage total and the figure, minutes times the total.
+pub fn total(file: &[u8]) -> TotalAnswer
+    ensures { λ r. ⌜ totalSays r ≡ totalled (now (file .entry)) ⌝ }
+{
+    let mut net = net_space();
+    let mut impacts = lines_space();
+    match load_impacts(file, &mut net, &mut impacts) {
+        CheckAnswer::Refused { number, record } => TotalAnswer::Refused { number, record },
+        CheckAnswer::Accepted => {
+            let total = outage::total_of(&net, &impacts).number();
+            TotalAnswer::Outage {
+                total,
+                figure: buffer::minutes(&net) * total,
+            }
+        }
+    }
 }
 
 // Room for a network.

@@ -1,14 +1,13 @@
 -- A line that we come to by the end of a code, and its far station.
 use Prim.Native.Nat.{ℕ, zero, suc, _+_, _*_, _-_, _/_, _%_, _≤_}
-use mathlib.Core.Path.{_≡_, refl, sym, ap, _∙_, subst}
-use mathlib.Core.Bool.{true, false, true≢false}
+use mathlib.Core.Path.{_≡_, sym, ap, _∙_, subst}
+use mathlib.Core.Bool.{true≢false}
 use mathlib.Core.List.{List}
 use native.Mathlib.Omega.{arith}
-use lib.Dec.{eqb}
 use lib.ListN.{length, set}
 use borrow.Author.Tests.{eq-eqb, ne-eqb}
 use Rattle.model.specs.Network.{Network}
-use Rattle.model.specs.Paths.{End, state, isOpen, stationAt}
+use Rattle.model.specs.Paths.{End, state, stationAt}
 use Rattle.theory.specs.Reading.{Read}
 use Rattle.theory.specs.Ends.{closed-end}
 use Rattle.theory.specs.Behind.{far, stationSum, lineSum}

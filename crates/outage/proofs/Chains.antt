@@ -6,19 +6,19 @@ use mathlib.Core.Logic.{_≢_, _⊎_, inl, inr, ⊎-elim}
 use mathlib.Core.List.{List, [], _∷_, map, flatMap, List·Memᴰ, List·Memᴰ·head, List·Memᴰ·tail, List·Memᴰ·not-nil, List·Memᴰ·cases-cons}
 use native.Mathlib.Omega.{arith}
 use lib.Dec.{eqb}
-use lib.ListN.{length, length-append, getD}
+use lib.ListN.{length, getD}
 use borrow.Author.Tests.{eqb-true, eq-eqb, not-true}
 use Rattle.model.specs.Lists.{sum, keep, numbers}
 use Rattle.model.specs.Network.{Network}
-use Rattle.model.specs.Paths.{End, sameEnd, end1, end2, lineNumbers, state, isOpen, stationAt, closedEnds, customersOf}
+use Rattle.model.specs.Paths.{End, sameEnd, end1, end2, lineNumbers, isOpen, stationAt, closedEnds, customersOf}
 use Rattle.graphs.specs.Behind.{same-not, same-false}
 use Rattle.theory.specs.Reading.{Read}
-use Rattle.theory.specs.Sizes.{numbers-length, keep-length, Sized, read-sized, customersBehind-size}
+use Rattle.theory.specs.Sizes.{numbers-length, keep-length, read-sized, customersBehind-size}
 use Rattle.theory.specs.Ends.{in-keep, keep-in, sameEnd-is, end-discrete, in-closed, closed-in}
 use Rattle.theory.specs.Radial.{Rules}
 use Rattle.theory.specs.Behind.{stationSum, lineSum, lineSum-left}
 use Rattle.tree.specs.Linked.{codeEnd, Chain, over, link, endsAt, Linked}
-use Rattle.outage.specs.Below.{Leaves, AtLine, AtStation, Filled}
+use Rattle.outage.specs.Below.{Leaves, AtStation, Filled}
 use Rattle.outage.proofs.Paths.{station-levels, at-line}
 use Rattle.outage.proofs.Filling.{filled-none, filled-fewer, filled-both}
 

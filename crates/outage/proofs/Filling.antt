@@ -2,21 +2,20 @@
 use Prim.Native.Nat.{ℕ, _-_, _≤_}
 use mathlib.Core.Path.{_≡_, refl, sym, ap, _∙_, subst}
 use mathlib.Core.Bool.{false}
-use mathlib.Core.Logic.{_≢_, _⊎_, inl, inr, ⊎-elim}
+use mathlib.Core.Logic.{_⊎_, inl, inr, ⊎-elim}
 use mathlib.Core.List.{List, List·Memᴰ}
 use native.Mathlib.Decide.{ℕ-discrete}
 use native.Mathlib.Omega.{arith}
 use lib.ListN.{length, getD, set}
 use lib.Seq.{getD-set-same, getD-set-other}
 use Rattle.model.specs.Network.{Network}
-use Rattle.model.specs.Paths.{line, End, state, isOpen, stationAt}
+use Rattle.model.specs.Paths.{line, End, isOpen, stationAt}
 use Rattle.model.specs.Outage.{pathToHV, customersBehind}
 use Rattle.theory.specs.Reading.{Read}
 use Rattle.theory.specs.Ends.{closed-end}
 use Rattle.theory.specs.Radial.{Rules}
 use Rattle.theory.specs.Behind.{far, lineSum, lineSum-left}
 use Rattle.tree.specs.Outwards.{nearEnd}
-use Rattle.outage.specs.Feeding.{Near}
 use Rattle.outage.specs.Below.{Leaves, AtLine, Filled}
 use Rattle.outage.proofs.Paths.{near-is, beyond}
 

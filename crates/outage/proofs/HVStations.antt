@@ -1,5 +1,5 @@
 -- The customers behind every line, HV station by HV station.
-use Prim.Native.Nat.{ℕ, _+_, _/_, _≤_, _<_}
+use Prim.Native.Nat.{ℕ, _+_, _/_, _<_}
 use mathlib.Core.Path.{_≡_, sym, ap, _∙_}
 use mathlib.Core.Bool.{true, false, true≢false}
 use mathlib.Core.Logic.{_⊎_, inl, inr, ⊎-elim}
@@ -8,7 +8,7 @@ use native.Mathlib.Decide.{ℕ-discrete}
 use native.Mathlib.Omega.{arith}
 use lib.ListN.{length}
 use Rattle.model.specs.Network.{Network}
-use Rattle.model.specs.Paths.{station, End, state, isOpen, stationAt, isHV, atHV}
+use Rattle.model.specs.Paths.{station, End, isOpen, stationAt, isHV, atHV}
 use Rattle.theory.specs.Reading.{Read}
 use Rattle.theory.specs.Ends.{closed-end}
 use Rattle.theory.specs.Radial.{Rules, root-in}

@@ -8,7 +8,7 @@ use native.Mathlib.Decide.{ℕ-discrete}
 use native.Mathlib.Omega.{arith}
 use lib.ListN.{length}
 use Rattle.model.specs.Network.{Network}
-use Rattle.model.specs.Paths.{Vertex, station, line, End, state, isOpen, isBreaker, stationAt, isHV, atHV, closedEnds}
+use Rattle.model.specs.Paths.{Vertex, station, line, End, isOpen, stationAt, isHV, atHV, closedEnds}
 use Rattle.model.specs.Outage.{pathToHV, customersBehind}
 use Rattle.graphs.specs.Graph.{Walk, stop}
 use Rattle.graphs.specs.Behind.{short}

@@ -6,7 +6,7 @@ use mathlib.Core.Logic.{_≢_, _⊎_}
 use mathlib.Core.List.{List, _∷_, List·Memᴰ}
 use lib.ListN.{length, getD}
 use Rattle.model.specs.Network.{Network}
-use Rattle.model.specs.Paths.{station, line, End, state, isOpen, stationAt, closedEnds}
+use Rattle.model.specs.Paths.{station, line, End, isOpen, stationAt, closedEnds}
 use Rattle.model.specs.Outage.{pathToHV, customersBehind}
 use Rattle.theory.specs.Reading.{Read}
 use Rattle.theory.specs.Radial.{Rules}

@@ -6,7 +6,7 @@ use mathlib.Core.Bool.{true, false}
 use mathlib.Core.List.{List, [], _∷_}
 use lib.ListN.{length, getD}
 use Rattle.model.specs.Network.{Network}
-use Rattle.model.specs.Paths.{station, line, End, state, isOpen, isBreaker, stationAt}
+use Rattle.model.specs.Paths.{station, line, End, isOpen, isBreaker, stationAt}
 use Rattle.model.specs.Outage.{pathToHV, customersBehind, impact}
 use Rattle.theory.specs.Behind.{far}
 use Rattle.buffer.specs.Buffer.{networkIn}

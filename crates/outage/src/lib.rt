@@ -1,26 +1,26 @@
 // The customers behind each line, the impact of a fault on it, and the total of the outage amounts.
 ghost use mathlib.Core.Path.{_≡_};
-ghost use Prim.Native.Nat.{ℕ, _-_, _≤_};
+ghost use Prim.Native.Nat.{_-_};
 ghost use lib.ListN.{length, getD};
 ghost use Rattle.model.specs.Paths.{state};
 ghost use Rattle.model.specs.Outage.{impact, outageAmount, total};
 ghost use Rattle.theory.specs.Reading.{Read};
 ghost use Rattle.theory.specs.Radial.{Rules};
 ghost use Rattle.theory.specs.Sizes.{Sized};
+ghost use Rattle.theory.specs.Behind.{stationSum, lineSum};
 ghost use Rattle.buffer.specs.Buffer.{networkIn};
 ghost use Rattle.buffer.specs.Fits.{Fits, LineThere, EndThere, endIn};
-ghost use Rattle.theory.specs.Behind.{stationSum, lineSum};
 ghost use Rattle.tree.specs.Linked.{codeEnd, Linked};
 ghost use Rattle.tree.specs.Outwards.{Outwards};
+ghost use Rattle.outage.specs.Held.{HoldsCustomers, HoldsImpacts};
 ghost use Rattle.outage.specs.Feeding.{Feeds, Known};
 ghost use Rattle.outage.specs.Below.{Ready, Leaves, AtLine, AtStation, Filled};
-ghost use Rattle.outage.specs.Held.{HoldsCustomers, HoldsImpacts};
 use amounts::Customers;
 use amounts::Total;
 use amounts::Weight;
 
 // The customers behind a station that we come to by an end (0 at an HV station): its own, and those behind each line that
-// leaves it. Each of these lines' customers, and those of the lines beyond them, are stored in `sums`.
+// leaves it. The customers behind these lines, and behind the lines beyond them, are stored in `sums`.
 fn station_sum(
     net: &[u64; 5129],
     heads: &[u64; 512],
@@ -33,15 +33,15 @@ fn station_sum(
     requires { ⌜ Ready (networkIn (now net)) (now heads) (now nexts) × AtStation (networkIn (now net)) (codeEnd came) station levels × (length (now sums) ≡ 768) ⌝ }
     ensures { λ r. ⌜ (r ≡ stationSum (networkIn (now (net .entry))) levels (codeEnd came) station) × Filled (networkIn (now (net .entry))) (Leaves (networkIn (now (net .entry))) (codeEnd came) station) (now (sums .entry)) (now (sums .exit)) ⌝ }
 {
-    let mut total = buffer::customers(net, station);
+    let mut sum = buffer::customers(net, station);
     let mut end = heads[station - 1] as usize;
     while end != 0 {
         if end != came {
-            total = total + line_sum(net, heads, nexts, sums, end, levels - 1);
+            sum = sum + line_sum(net, heads, nexts, sums, end, levels - 1);
         }
         end = nexts[end - 1] as usize;
     }
-    total
+    sum
 }
 
 // The customers behind a line that we come to by its near end: those behind its far station, or none if its far end is open.
@@ -58,6 +58,7 @@ fn line_sum(
     ensures { λ r. ⌜ (r ≡ lineSum (networkIn (now (net .entry))) levels (codeEnd entered)) × Filled (networkIn (now (net .entry))) (λ d. d ≡ codeEnd entered) (now (sums .entry)) (now (sums .exit)) ⌝ }
 {
     let line = (entered + 1) / 2;
+    // the far end
     let side = 1 + entered % 2;
     let mut sum: u64 = 0;
     if buffer::end_state(net, line, side) != 2 {
@@ -168,7 +169,7 @@ pub fn impacts(
     sums: &[u64; 768],
     out: &mut [u64; 768],
 )
-    requires { ⌜ Fits (networkIn (now net)) × Feeds (networkIn (now net)) × Outwards (networkIn (now net)) (now near) (now feed) (now order) × HoldsCustomers (networkIn (now net)) (now sums) ⌝ }
+    requires { ⌜ Read (networkIn (now net)) × Rules (networkIn (now net)) × Outwards (networkIn (now net)) (now near) (now feed) (now order) × HoldsCustomers (networkIn (now net)) (now sums) ⌝ }
     ensures { λ r. ⌜ HoldsImpacts (networkIn (now (net .entry))) (now (out .exit)) ⌝ }
 {
     impacts_outwards(net, near, feed, order, sums, out);
@@ -186,7 +187,7 @@ fn outage_amount(net: &[u64; 5129], impacts: &[u64; 768], line: usize) -> Total
 
 // The total: the sum of the outage amounts of all lines.
 pub fn total_of(net: &[u64; 5129], impacts: &[u64; 768]) -> Total
-    requires { ⌜ Fits (networkIn (now net)) × Sized (networkIn (now net)) × HoldsImpacts (networkIn (now net)) (now impacts) ⌝ }
+    requires { ⌜ Read (networkIn (now net)) × HoldsImpacts (networkIn (now net)) (now impacts) ⌝ }
     ensures { λ r. ⌜ r .0 ≡ total (networkIn (now (net .entry))) ⌝ }
 {
     let mut total = Total::ZERO;

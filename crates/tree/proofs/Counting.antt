@@ -54,13 +54,13 @@ pub record Counted (N : Network) (order counts : List ℕ) (k : ℕ) : Type 0 wh
 module _ (N : Network) (d : Read N) (r : Rules N) where
   module _ (l : ℕ) (i : In N (line l)) where
     -- the near and the far end of a line, by their numbers
-    pub near-in : nearEnd N l ≡ endIn l (nearEnd N l .side)
+    near-in : nearEnd N l ≡ endIn l (nearEnd N l .side)
     near-in = λ j. record { line = near-end N d r l i .own j; side = nearEnd N l .side }
 
-    pub far-in : far (nearEnd N l) ≡ endIn l (3 - nearEnd N l .side)
+    far-in : far (nearEnd N l) ≡ endIn l (3 - nearEnd N l .side)
     far-in = λ j. record { line = near-end N d r l i .own j; side = 3 - nearEnd N l .side }
 
-    pub near-side : (1 ≤ nearEnd N l .side) × (nearEnd N l .side ≤ 2)
+    near-side : (1 ≤ nearEnd N l .side) × (nearEnd N l .side ≤ 2)
     near-side = side-of N (nearEnd N l) (near-end N d r l i .closed)
 
     -- a line at an HV station, or one that another feeds
@@ -95,10 +95,10 @@ module _ (N : Network) (d : Read N) (r : Rules N) where
                       ∙ omega (arith, breakers-next N (nearEnd N l) (e ∷ pathToHV N (line (e .line))), breakers-next N e (pathToHV N (line (e .line))), ap (breaker N) (f .is-far)),
                 ))
 
-    pub at-hv : feeder N l ≡ 0 → pathBreakers N l ≡ breaker N (nearEnd N l)
+    at-hv : feeder N l ≡ 0 → pathBreakers N l ≡ breaker N (nearEnd N l)
     at-hv z = ⊎-elim (λ x. x .1) (λ x. absurd (omega (arith, x .0 .0))) fed-cases
 
-    pub fed-by : feeder N l ≢ 0 → FedBy
+    fed-by : feeder N l ≢ 0 → FedBy
     fed-by z = ⊎-elim (λ x. absurd (z (x .0))) (λ x. x) fed-cases
 
     -- the path of the far station has as many as the line's and the far end, if that is a breaker

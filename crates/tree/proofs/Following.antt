@@ -95,11 +95,12 @@ module _ (nexts : List ℕ) (first came fed count : ℕ) (near₀ feed₀ order�
 
     -- the line of any other is added
     pub following-add : code ≢ came
-        → (n < 768) × Following (set near ((code + 1) / 2 - 1) (2 - code % 2)) (set feed ((code + 1) / 2 - 1) fed) (set order n ((code + 1) / 2)) (n + 1) (getD nexts (code - 1) 0)
+        → (n < 768) × Following (set near ((code + 1) / 2 - 1) ((code + 1) % 2 + 1)) (set feed ((code + 1) / 2 - 1) fed) (set order n ((code + 1) / 2)) (n + 1) (getD nexts (code - 1) 0)
     unfolding keep nearAfter feedAfter orderAfter
     following-add z =
         let x = chain-next (f .chain) here in
         let k : leaving came (f .rest) ≡ codeEnd code ∷ leaving came (x .0) = ap (leaving came) (x .1) ∙ rw (ne-eqb (endCode (codeEnd code)) came (λ y. z (omega (arith, x .3))), keep) in
+        let e : (code + 1) % 2 + 1 ≡ 2 - code % 2 = omega arith in
         let m = ap length k in (
           omega (arith, f .counted, f .room .fits),
           record {
@@ -107,7 +108,7 @@ module _ (nexts : List ℕ) (first came fed count : ℕ) (near₀ feed₀ order�
             rest = x .0;
             chain = x .2;
             low = omega (arith, f .room .small, chain-low (x .2));
-            nears = ap (nearAfter near) (sym k) ∙ f .nears;
+            nears = ap (λ n. nearAfter (set near ((code + 1) / 2 - 1) n) (leaving came (x .0))) e ∙ ap (nearAfter near) (sym k) ∙ f .nears;
             feeds = ap (feedAfter fed feed) (sym k) ∙ f .feeds;
             orders = ap (orderAfter order n) (sym k) ∙ f .orders;
             counted = omega (arith, f .counted);

@@ -54,11 +54,11 @@ module _ (N : Network) (d : Read N) (r : Rules N) where
 
   module _ {Done : ℕ → Type 0} (near feed order : List ℕ) (n : ℕ) (q : Queue N Done near feed order n) where
     -- the same stations
-    pub queue-same : {Done' : ℕ → Type 0} → ((t : ℕ) → Done t → Done' t) → ((t : ℕ) → Done' t → Done t) → Queue N Done' near feed order n
+    queue-same : {Done' : ℕ → Type 0} → ((t : ℕ) → Done t → Done' t) → ((t : ℕ) → Done' t → Done t) → Queue N Done' near feed order n
     queue-same f g = record { most = q .most; laid = laid-same N f g (q .laid); told = q .told; nears = q .nears; feeds = q .feeds; orders = q .orders }
 
     -- the line at a place
-    pub queue-line : (i : ℕ) → i < n → List·Memᴰ (getD order i 0) (take n order)
+    queue-line : (i : ℕ) → i < n → List·Memᴰ (getD order i 0) (take n order)
     queue-line i h = Memᴰ·cast (sym (getD-take n order i 0 h)) (at-place (take n order) i (omega (arith, length-take-le n order (omega (arith, q .most, q .orders)))))
 
     -- one station more
@@ -77,7 +77,7 @@ module _ (N : Network) (d : Read N) (r : Rules N) where
             d .head .lines .high,
           )
 
-      pub queue-room : (heads nexts : List ℕ) → Linked N heads nexts → In N (station s) → Room nexts (getD heads (s - 1) 0) came n
+      queue-room : (heads nexts : List ℕ) → Linked N heads nexts → In N (station s) → Room nexts (getD heads (s - 1) 0) came n
       queue-room heads nexts k i = record { most = 2 * length (N .lines); small = omega (arith, d .lineCount, d .head .lines .high); ends = endsAt N s; chain = k .lists s (i .0) (i .1); fits = room }
 
       module _ (near' feed' order' : List ℕ) (n' : ℕ) (a : Added (leaving came (endsAt N s)) fed n near feed order near' feed' order' n') where
@@ -85,14 +85,14 @@ module _ (N : Network) (d : Read N) (r : Rules N) where
         added : take n' order' ≡ take n order ++ map (λ e. e .line) (leaving came (endsAt N s))
         added = ap (λ k. take k order') (a .counted) ∙ ap (take (n + length (leaving came (endsAt N s)))) (a .orders) ∙ order-after order n (leaving came (endsAt N s)) (omega (arith, room, q .orders))
 
-        pub queue-kept : (k : ℕ) → k ≤ n → take k order' ≡ take k order
+        queue-kept : (k : ℕ) → k ≤ n → take k order' ≡ take k order
         queue-kept k h =
             sym (take-take k n' order' (omega (arith, a .counted)))
             ∙ ap (take k) added
             ∙ take-append-le k (take n order) (map (λ e. e .line) (leaving came (endsAt N s))) (omega (arith, length-take-le n order (omega (arith, q .most, q .orders))))
             ∙ take-take k n order h
 
-        pub queue-add : {Done' : ℕ → Type 0} → ((t : ℕ) → Done t → Done' t) → Done' s → ((t : ℕ) → Done' t → Done t ⊎ (t ≡ s)) → Queue N Done' near' feed' order' n'
+        queue-add : {Done' : ℕ → Type 0} → ((t : ℕ) → Done t → Done' t) → Done' s → ((t : ℕ) → Done' t → Done t ⊎ (t ≡ s)) → Queue N Done' near' feed' order' n'
         queue-add {Done'} f here g = record {
           most = omega (arith, a .counted, room);
           laid = subst (Laid N Done') (sym added) (laid-more N d r s (leaving came (endsAt N s)) fed (q .laid) v new known f here g);

@@ -1,4 +1,5 @@
-// The tree of a radial network: lists of the closed ends at each station, and the lines from the HV stations outwards.
+// The tree of a radial network: lists of the closed ends at each station, the lines from the HV stations outwards, and the
+// series rule along them. An end has a code: 1 and 2 are the ends of line 1, 3 and 4 those of line 2; 0 is none.
 ghost use Prim.Native.Nat.{ℕ, _+_, _*_, _≤_, _<_};
 ghost use mathlib.Core.Path.{_≡_};
 ghost use mathlib.Core.Bool.{not};
@@ -87,7 +88,7 @@ fn append(
     while code != 0 {
         if code != came {
             let line = (code + 1) / 2;
-            near[line - 1] = (2 - code % 2) as u64;
+            near[line - 1] = ((code + 1) % 2 + 1) as u64;
             feed[line - 1] = fed;
             order[n] = line as u64;
             n += 1;
@@ -119,7 +120,8 @@ fn from_hv(
     n
 }
 
-// The lines that leave the far station of line i of the order follow its n lines. Returns how many lines it has then.
+// The lines that leave the far station of the line at place i of the order, if its far end is closed, follow the n lines there.
+// Returns how many lines the order has then.
 fn from_line(
     net: &[u64; 5129],
     heads: &[u64; 512],

@@ -44,7 +44,6 @@ abbrev station-sum-below : ℕ → In 4 station-sum-kinds.ps
 station-sum-below t =
     and 4 station-sum-kinds.ps (falls 4 station-sum-kinds.ps _<_ μ-station-sum t) station-sum.Pre
 
--- src/lib.rt:43:17
 line-sum-add-line : (t : ℕ) → line-sum-lts.Need-add-line (
   end-state-reads.Asked,
   end-state-reads.Learnt,
@@ -58,7 +57,6 @@ line-sum-add-line t c =
     let g = s .args in
     omega (arith, line-code (g .net .now) (g .heads .now) (g .nexts .now) (s .pre .1 .0) (g .entered) (g .levels) (s .pre .1 .1))
 
--- src/lib.rt:44:16
 line-sum-add-side : (t : ℕ) → line-sum-lts.Need-add-side (
   end-state-reads.Asked,
   end-state-reads.Learnt,
@@ -69,7 +67,6 @@ line-sum-add-side : (t : ℕ) → line-sum-lts.Need-add-side (
 ) (line-sum-at t) line-sum.Post
 line-sum-add-side t c = omega arith
 
--- src/lib.rt:46:8
 line-sum-end-state-requires : (t : ℕ) → line-sum-lts.Need-end-state-requires (
   end-state-reads.Asked,
   end-state-reads.Learnt,
@@ -83,7 +80,6 @@ line-sum-end-state-requires t c κs =
     let g = s .args in
     far-there (g .net .now) (g .heads .now) (g .nexts .now) (s .pre .1 .0) (g .entered) (g .levels) (s .pre .1 .1)
 
--- src/lib.rt:47:13
 line-sum-end-station-requires : (t : ℕ) → line-sum-lts.Need-end-station-requires (
   end-state-reads.Asked,
   end-state-reads.Learnt,
@@ -97,7 +93,6 @@ line-sum-end-station-requires t c κs =
     let g = s .args in
     far-there (g .net .now) (g .heads .now) (g .nexts .now) (s .pre .1 .0) (g .entered) (g .levels) (s .pre .1 .1)
 
--- src/lib.rt:48:52
 line-sum-mul-station-sum : (t : ℕ) → line-sum-lts.Need-mul-station-sum (
   end-state-reads.Asked,
   end-state-reads.Learnt,
@@ -111,7 +106,6 @@ line-sum-mul-station-sum t c =
     let g = s .args in
     omega (arith, line-code (g .net .now) (g .heads .now) (g .nexts .now) (s .pre .1 .0) (g .entered) (g .levels) (s .pre .1 .1))
 
--- src/lib.rt:48:52
 line-sum-add-station-sum : (t : ℕ) → line-sum-lts.Need-add-station-sum (
   end-state-reads.Asked,
   end-state-reads.Learnt,
@@ -125,7 +119,6 @@ line-sum-add-station-sum t c =
     let g = s .args in
     omega (arith, line-code (g .net .now) (g .heads .now) (g .nexts .now) (s .pre .1 .0) (g .entered) (g .levels) (s .pre .1 .1))
 
--- src/lib.rt:48:52
 line-sum-sub-station-sum : (t : ℕ) → line-sum-lts.Need-sub-station-sum (
   end-state-reads.Asked,
   end-state-reads.Learnt,
@@ -139,7 +132,6 @@ line-sum-sub-station-sum t c =
     let g = s .args in
     omega (arith, line-code (g .net .now) (g .heads .now) (g .nexts .now) (s .pre .1 .0) (g .entered) (g .levels) (s .pre .1 .1))
 
--- src/lib.rt:48:82
 line-sum-sub-station-sum-2 : (t : ℕ) → line-sum-lts.Need-sub-station-sum-2 (
   end-state-reads.Asked,
   end-state-reads.Learnt,
@@ -153,7 +145,6 @@ line-sum-sub-station-sum-2 t c =
     let g = s .args in
     line-left (g .net .now) (g .heads .now) (g .nexts .now) (s .pre .1 .0) (g .entered) (g .levels) (s .pre .1 .1)
 
--- src/lib.rt:48:9
 line-sum-station-sum-requires : (t : ℕ) → line-sum-lts.Need-station-sum-requires (
   end-state-reads.Asked,
   end-state-reads.Learnt,
@@ -184,7 +175,6 @@ line-sum-length : (t : ℕ) (c : line-sum-lts.Joined1 (
 ) (line-sum-at t) line-sum.Post) → length (c .if1 .sums) ≡ length (c .before .before .before .args .sums .now)
 line-sum-length t c = ⊎-elim (λ w. ap length (w .6) ∙ w .3 .kept .1 .1 .1 .0) (λ w. ap length (w .1)) (c .if1 .came)
 
--- src/lib.rt:50:10
 line-sum-sub-sums : (t : ℕ) → line-sum-lts.Need-sub-sums (
   end-state-reads.Asked,
   end-state-reads.Learnt,
@@ -198,7 +188,6 @@ line-sum-sub-sums t c =
     let g = s .args in
     omega (arith, line-code (g .net .now) (g .heads .now) (g .nexts .now) (s .pre .1 .0) (g .entered) (g .levels) (s .pre .1 .1))
 
--- src/lib.rt:50:5
 line-sum-mul-sums : (t : ℕ) → line-sum-lts.Need-mul-sums (
   end-state-reads.Asked,
   end-state-reads.Learnt,
@@ -212,7 +201,6 @@ line-sum-mul-sums t c =
     let g = s .args in
     omega (arith, line-code (g .net .now) (g .heads .now) (g .nexts .now) (s .pre .1 .0) (g .entered) (g .levels) (s .pre .1 .1))
 
--- src/lib.rt:50:5
 line-sum-slice-write-sums : (t : ℕ) → line-sum-lts.Need-slice-write-sums (
   end-state-reads.Asked,
   end-state-reads.Learnt,
@@ -226,7 +214,6 @@ line-sum-slice-write-sums t c =
     let g = s .args in
     omega (arith, line-code (g .net .now) (g .heads .now) (g .nexts .now) (s .pre .1 .0) (g .entered) (g .levels) (s .pre .1 .1), line-sum-length t c)
 
--- src/lib.rt:39:1
 line-sum-same-length : (t : ℕ) → line-sum-lts.Need-same-length (
   end-state-reads.Asked,
   end-state-reads.Learnt,
@@ -237,7 +224,6 @@ line-sum-same-length : (t : ℕ) → line-sum-lts.Need-same-length (
 ) (line-sum-at t) line-sum.Post
 line-sum-same-length t c = simp length-set (line-sum-length t c)
 
--- src/lib.rt:39:1
 line-sum-returns : (t : ℕ) → line-sum-lts.Need-returns (
   end-state-reads.Asked,
   end-state-reads.Learnt,
@@ -266,12 +252,11 @@ line-sum-returns t c =
     (c .if1 .came)
 
 abbrev station-sum-Inv-loop : station-sum-lts.InvT-loop
-station-sum-Inv-loop net heads nexts sums₀ came station levels total₀ end₀ sums total end = (length sums ≡ length sums₀) × Part (networkIn net) nexts came station levels end total sums₀ sums
+station-sum-Inv-loop net heads nexts sums₀ came station levels sum₀ end₀ sums sum end = (length sums ≡ length sums₀) × Part (networkIn net) nexts came station levels end sum sums₀ sums
 
 abbrev station-sum-μ-loop : station-sum-lts.MeasureT-loop
-station-sum-μ-loop net heads nexts sums₀ came station levels total₀ end₀ sums total end = mostLeft end
+station-sum-μ-loop net heads nexts sums₀ came station levels sum₀ end₀ sums sum end = mostLeft end
 
--- src/lib.rt:26:9
 station-sum-customers-requires : (t : ℕ) → station-sum-lts.Need-customers-requires (
   customers-reads.Asked,
   customers-reads.Learnt,
@@ -283,7 +268,6 @@ station-sum-customers-requires t c κs =
     let g = s .args in
     record { fits = read-fits (networkIn (g .net .now)) (s .pre .1 .0 .read); low = s .pre .1 .1 .low; high = s .pre .1 .1 .high }
 
--- src/lib.rt:27:25
 station-sum-sub-end : (t : ℕ) → station-sum-lts.Need-sub-end (
   customers-reads.Asked,
   customers-reads.Learnt,
@@ -295,7 +279,6 @@ station-sum-sub-end t c =
     let g = s .args in
     omega (arith, read-fits (networkIn (g .net .now)) (s .pre .1 .0 .read) .stations, s .pre .1 .1 .low, s .pre .1 .1 .high)
 
--- src/lib.rt:27:19
 station-sum-mul-end : (t : ℕ) → station-sum-lts.Need-mul-end (
   customers-reads.Asked,
   customers-reads.Learnt,
@@ -307,7 +290,6 @@ station-sum-mul-end t c =
     let g = s .args in
     omega (arith, read-fits (networkIn (g .net .now)) (s .pre .1 .0 .read) .stations, s .pre .1 .1 .low, s .pre .1 .1 .high)
 
--- src/lib.rt:27:19
 station-sum-element-copy-out-end : (t : ℕ) → station-sum-lts.Need-element-copy-out-end (
   customers-reads.Asked,
   customers-reads.Learnt,
@@ -319,7 +301,6 @@ station-sum-element-copy-out-end t c =
     let g = s .args in
     omega (arith, read-fits (networkIn (g .net .now)) (s .pre .1 .0 .read) .stations, s .pre .1 .1 .low, s .pre .1 .1 .high)
 
--- src/lib.rt:28:5
 station-sum-loop-holds : (t : ℕ) → station-sum-lts.Need-loop-holds (
   customers-reads.Asked,
   customers-reads.Learnt,
@@ -334,7 +315,6 @@ station-sum-loop-holds t c =
           (part-start (networkIn (g .net .now)) (s .pre .1 .0 .read) (s .pre .1 .0 .rules) (g .heads .now) (g .nexts .now) (s .pre .1 .0 .linked) (g .came) (g .station) (g .levels) (s .pre .1 .1) (g .sums .now)),
     )
 
--- src/lib.rt:30:68
 station-sum-sub-line-sum : (t : ℕ) → station-sum-lts.Need-sub-line-sum (
   customers-reads.Asked,
   customers-reads.Learnt,
@@ -346,7 +326,6 @@ station-sum-sub-line-sum t c =
     let g = s .args in
     station-levels (networkIn (g .net .now)) (s .pre .1 .0 .read) (s .pre .1 .0 .rules) (codeEnd (g .came)) (g .station) (g .levels) (s .pre .1 .1)
 
--- src/lib.rt:30:29
 station-sum-line-sum-requires : (t : ℕ) → station-sum-lts.Need-line-sum-requires (
   customers-reads.Asked,
   customers-reads.Learnt,
@@ -360,30 +339,28 @@ station-sum-line-sum-requires t c κs =
       omega (arith, s .pre .0, station-levels (networkIn (g .net .now)) (s .pre .1 .0 .read) (s .pre .1 .0 .rules) (codeEnd (g .came)) (g .station) (g .levels) (s .pre .1 .1)),
       (
         s .pre .1 .0,
-        at-line (networkIn (g .net .now)) (s .pre .1 .0 .read) (s .pre .1 .0 .rules) (codeEnd (g .came)) (g .station) (g .levels) (s .pre .1 .1) (codeEnd (h .end)) (part-leaves (networkIn (g .net .now)) (g .nexts .now) (g .came) (g .station) (g .levels) (h .end) (h .total) (g .sums .now) (h .sums) (h .inv .1) (c .before .before .loop-test .taken) (c .before .if1 .taken)),
+        at-line (networkIn (g .net .now)) (s .pre .1 .0 .read) (s .pre .1 .0 .rules) (codeEnd (g .came)) (g .station) (g .levels) (s .pre .1 .1) (codeEnd (h .end)) (part-leaves (networkIn (g .net .now)) (g .nexts .now) (g .came) (g .station) (g .levels) (h .end) (h .sum) (g .sums .now) (h .sums) (h .inv .1) (c .before .before .loop-test .taken) (c .before .if1 .taken)),
         h .inv .0 ∙ s .pre .1 .2,
       ),
     )
 
--- src/lib.rt:30:21
-station-sum-add-total : (t : ℕ) → station-sum-lts.Need-add-total (
+station-sum-add-sum : (t : ℕ) → station-sum-lts.Need-add-sum (
   customers-reads.Asked,
   customers-reads.Learnt,
   line-sum-below t,
   line-sum.Post,
 ) (station-sum-at t) station-sum.Post station-sum-Inv-loop station-sum-μ-loop
-station-sum-add-total t c =
+station-sum-add-sum t c =
     let s = c .before .before .before .before .before .before .before .before .before .before in
     let g = s .args in
     let h = c .before .before .before .before .before .before .loop in
     omega (
       arith,
       c .before .before .line-sum .ensures .0,
-      part-fits (networkIn (g .net .now)) (g .nexts .now) (g .came) (g .station) (g .levels) (h .end) (h .total) (g .sums .now) (h .sums) (h .inv .1) (c .before .before .before .before .before .loop-test .taken) (c .before .before .before .before .if1 .taken),
+      part-fits (networkIn (g .net .now)) (g .nexts .now) (g .came) (g .station) (g .levels) (h .end) (h .sum) (g .sums .now) (h .sums) (h .inv .1) (c .before .before .before .before .before .loop-test .taken) (c .before .before .before .before .if1 .taken),
       station-size (networkIn (g .net .now)) (s .pre .1 .0 .read) (s .pre .1 .0 .rules) (codeEnd (g .came)) (g .station) (g .levels) (s .pre .1 .1),
     )
 
--- src/lib.rt:32:21
 station-sum-sub-end-2 : (t : ℕ) → station-sum-lts.Need-sub-end-2 (
   customers-reads.Asked,
   customers-reads.Learnt,
@@ -394,9 +371,8 @@ station-sum-sub-end-2 t c =
     let s = c .before .before .before .before .before .before in
     let g = s .args in
     let h = c .before .before .loop in
-    omega (arith, part-code (networkIn (g .net .now)) (g .nexts .now) (g .came) (g .station) (g .levels) (h .end) (h .total) (g .sums .now) (h .sums) (h .inv .1) (c .before .loop-test .taken), read-fits (networkIn (g .net .now)) (s .pre .1 .0 .read) .lines)
+    omega (arith, part-code (networkIn (g .net .now)) (g .nexts .now) (g .came) (g .station) (g .levels) (h .end) (h .sum) (g .sums .now) (h .sums) (h .inv .1) (c .before .loop-test .taken), read-fits (networkIn (g .net .now)) (s .pre .1 .0 .read) .lines)
 
--- src/lib.rt:32:15
 station-sum-mul-end-2 : (t : ℕ) → station-sum-lts.Need-mul-end-2 (
   customers-reads.Asked,
   customers-reads.Learnt,
@@ -407,9 +383,8 @@ station-sum-mul-end-2 t c =
     let s = c .before .before .before .before .before .before in
     let g = s .args in
     let h = c .before .before .loop in
-    omega (arith, part-code (networkIn (g .net .now)) (g .nexts .now) (g .came) (g .station) (g .levels) (h .end) (h .total) (g .sums .now) (h .sums) (h .inv .1) (c .before .loop-test .taken), read-fits (networkIn (g .net .now)) (s .pre .1 .0 .read) .lines)
+    omega (arith, part-code (networkIn (g .net .now)) (g .nexts .now) (g .came) (g .station) (g .levels) (h .end) (h .sum) (g .sums .now) (h .sums) (h .inv .1) (c .before .loop-test .taken), read-fits (networkIn (g .net .now)) (s .pre .1 .0 .read) .lines)
 
--- src/lib.rt:32:15
 station-sum-element-copy-out-end-2 : (t : ℕ) → station-sum-lts.Need-element-copy-out-end-2 (
   customers-reads.Asked,
   customers-reads.Learnt,
@@ -420,9 +395,8 @@ station-sum-element-copy-out-end-2 t c =
     let s = c .before .before .before .before .before .before in
     let g = s .args in
     let h = c .before .before .loop in
-    omega (arith, part-code (networkIn (g .net .now)) (g .nexts .now) (g .came) (g .station) (g .levels) (h .end) (h .total) (g .sums .now) (h .sums) (h .inv .1) (c .before .loop-test .taken), read-fits (networkIn (g .net .now)) (s .pre .1 .0 .read) .lines)
+    omega (arith, part-code (networkIn (g .net .now)) (g .nexts .now) (g .came) (g .station) (g .levels) (h .end) (h .sum) (g .sums .now) (h .sums) (h .inv .1) (c .before .loop-test .taken), read-fits (networkIn (g .net .now)) (s .pre .1 .0 .read) .lines)
 
--- src/lib.rt:28:5
 station-sum-loop-less : (t : ℕ) → station-sum-lts.Need-loop-less (
   customers-reads.Asked,
   customers-reads.Learnt,
@@ -433,9 +407,8 @@ station-sum-loop-less t c =
     let s = c .before .before .before .before .before .before .before in
     let g = s .args in
     let h = c .before .before .before .loop in
-    part-less (networkIn (g .net .now)) (g .nexts .now) (g .came) (g .station) (g .levels) (h .end) (h .total) (g .sums .now) (h .sums) (h .inv .1) (c .before .before .loop-test .taken) (read-fits (networkIn (g .net .now)) (s .pre .1 .0 .read) .lines)
+    part-less (networkIn (g .net .now)) (g .nexts .now) (g .came) (g .station) (g .levels) (h .end) (h .sum) (g .sums .now) (h .sums) (h .inv .1) (c .before .before .loop-test .taken) (read-fits (networkIn (g .net .now)) (s .pre .1 .0 .read) .lines)
 
--- src/lib.rt:28:5
 station-sum-loop-again : (t : ℕ) → station-sum-lts.Need-loop-again (
   customers-reads.Asked,
   customers-reads.Learnt,
@@ -451,18 +424,17 @@ station-sum-loop-again t c =
     ⊎-elim
     (λ w. (
       ap length (w .5) ∙ w .2 .kept .1 .1 .1 .0 ∙ h .inv .0,
-      subst (λ x. Part (networkIn (g .net .now)) (g .nexts .now) (g .came) (g .station) (g .levels) (getD (g .nexts .now) (h .end - 1) 0) (j .total) (g .sums .now) x) (sym (w .5))
+      subst (λ x. Part (networkIn (g .net .now)) (g .nexts .now) (g .came) (g .station) (g .levels) (getD (g .nexts .now) (h .end - 1) 0) (j .sum) (g .sums .now) x) (sym (w .5))
           (subst (λ x. Part (networkIn (g .net .now)) (g .nexts .now) (g .came) (g .station) (g .levels) (getD (g .nexts .now) (h .end - 1) 0) x (g .sums .now) (w .2 .last .1 .1 .1 .0)) (sym (w .6))
-          (part-more (networkIn (g .net .now)) (g .nexts .now) (g .came) (g .station) (g .levels) (h .end) (h .total) (g .sums .now) (h .sums) (h .inv .1) z (w .0 .taken) (w .2 .result) (w .2 .last .1 .1 .1 .0) (w .2 .ensures .0) (w .2 .ensures .1))),
+          (part-more (networkIn (g .net .now)) (g .nexts .now) (g .came) (g .station) (g .levels) (h .end) (h .sum) (g .sums .now) (h .sums) (h .inv .1) z (w .0 .taken) (w .2 .result) (w .2 .last .1 .1 .1 .0) (w .2 .ensures .0) (w .2 .ensures .1))),
     ))
     (λ w. (
       ap length (w .1) ∙ h .inv .0,
-      subst (λ x. Part (networkIn (g .net .now)) (g .nexts .now) (g .came) (g .station) (g .levels) (getD (g .nexts .now) (h .end - 1) 0) (j .total) (g .sums .now) x) (sym (w .1))
-          (subst (λ x. Part (networkIn (g .net .now)) (g .nexts .now) (g .came) (g .station) (g .levels) (getD (g .nexts .now) (h .end - 1) 0) x (g .sums .now) (h .sums)) (sym (w .2)) (part-skip (networkIn (g .net .now)) (g .nexts .now) (g .came) (g .station) (g .levels) (h .end) (h .total) (g .sums .now) (h .sums) (h .inv .1) z (w .0 .left))),
+      subst (λ x. Part (networkIn (g .net .now)) (g .nexts .now) (g .came) (g .station) (g .levels) (getD (g .nexts .now) (h .end - 1) 0) (j .sum) (g .sums .now) x) (sym (w .1))
+          (subst (λ x. Part (networkIn (g .net .now)) (g .nexts .now) (g .came) (g .station) (g .levels) (getD (g .nexts .now) (h .end - 1) 0) x (g .sums .now) (h .sums)) (sym (w .2)) (part-skip (networkIn (g .net .now)) (g .nexts .now) (g .came) (g .station) (g .levels) (h .end) (h .sum) (g .sums .now) (h .sums) (h .inv .1) z (w .0 .left))),
     ))
     (j .came)
 
--- src/lib.rt:22:1
 station-sum-same-length : (t : ℕ) → station-sum-lts.Need-same-length (
   customers-reads.Asked,
   customers-reads.Learnt,
@@ -471,7 +443,6 @@ station-sum-same-length : (t : ℕ) → station-sum-lts.Need-same-length (
 ) (station-sum-at t) station-sum.Post station-sum-Inv-loop station-sum-μ-loop
 station-sum-same-length t c = c .before .loop .inv .0
 
--- src/lib.rt:22:1
 station-sum-returns : (t : ℕ) → station-sum-lts.Need-returns (
   customers-reads.Asked,
   customers-reads.Learnt,
@@ -482,7 +453,7 @@ station-sum-returns t c =
     let s = c .before .before .before .before .before in
     let g = s .args in
     let h = c .before .loop in
-    (part-sum (networkIn (g .net .now)) (g .nexts .now) (g .came) (g .station) (g .levels) (h .end) (h .total) (g .sums .now) (h .sums) (h .inv .1) (c .loop-test .left), part-filled (networkIn (g .net .now)) (g .nexts .now) (g .came) (g .station) (g .levels) (h .end) (h .total) (g .sums .now) (h .sums) (h .inv .1) (c .loop-test .left))
+    (part-sum (networkIn (g .net .now)) (g .nexts .now) (g .came) (g .station) (g .levels) (h .end) (h .sum) (g .sums .now) (h .sums) (h .inv .1) (c .loop-test .left), part-filled (networkIn (g .net .now)) (g .nexts .now) (g .came) (g .station) (g .levels) (h .end) (h .sum) (g .sums .now) (h .sums) (h .inv .1) (c .loop-test .left))
 
 pub +line-sum+station-sum-spec : {M : Type 1} → statement M
 +line-sum+station-sum-spec = close μ-line-sum μ-station-sum (λ t. line-sum-lts.spec (
@@ -522,7 +493,7 @@ pub +line-sum+station-sum-spec : {M : Type 1} → statement M
     (station-sum-loop-holds t)
     (station-sum-sub-line-sum t)
     (station-sum-line-sum-requires t)
-    (station-sum-add-total t)
+    (station-sum-add-sum t)
     (station-sum-sub-end-2 t)
     (station-sum-mul-end-2 t)
     (station-sum-element-copy-out-end-2 t)

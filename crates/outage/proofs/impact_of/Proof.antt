@@ -4,50 +4,37 @@ use Rattle.outage.proofs.Tripping.{end-there, own-sum, feeder-there, fe
 use borrow.Author.Needs.{needs}
 use Rattle.outage.proofs.impact_of.Statement.{statement}
 use Rattle.outage.proofs.impact_of.Tie as tie
-use Rattle.outage.proofs.impact_of.Reads as reads
-use Rattle.outage.proofs.impact_of.Lts as lts
-use Rattle.outage.proofs.far_state.Reads as far-state-reads
-use Rattle.outage.proofs.near_state.Reads as near-state-reads
 
--- src/lib.rt:39:8
 near-state-requires : tie.Need-near-state-requires
 near-state-requires c κs =
     let s = c .before in
     let g = s .args in
     end-there (g .net .now) (g .near .now) (g .feed .now) (g .sums .now) (g .impacts .now) (g .line) (s .pre .0) (g .line) (s .pre .0 .there .low) (s .pre .0 .there .high)
 
--- src/lib.rt:40:21
 sub-result : tie.Need-sub-result
 sub-result c = search needs
 
--- src/lib.rt:40:16
 mul-result : tie.Need-mul-result
 mul-result c = search needs
 
--- src/lib.rt:40:16
 element-copy-out-result : tie.Need-element-copy-out-result
 element-copy-out-result c = search needs
 
--- src/lib.rt:40:9
 returns : tie.Need-returns
 returns c =
     let s = c .before .before .before .before in
     let g = s .args in
     own-sum (g .net .now) (g .near .now) (g .feed .now) (g .sums .now) (g .impacts .now) (g .line) (s .pre .0) (sym (c .before .before .near-state .ensures) ∙ c .before .if1 .taken)
 
--- src/lib.rt:42:23
 sub-feeder : tie.Need-sub-feeder
 sub-feeder c = search needs
 
--- src/lib.rt:42:18
 mul-feeder : tie.Need-mul-feeder
 mul-feeder c = search needs
 
--- src/lib.rt:42:18
 element-copy-out-feeder : tie.Need-element-copy-out-feeder
 element-copy-out-feeder c = search needs
 
--- src/lib.rt:43:8
 far-state-requires : tie.Need-far-state-requires
 far-state-requires c κs =
     let s = c .before .before .before .before in
@@ -55,56 +42,48 @@ far-state-requires c κs =
     let m = feeder-there (g .net .now) (g .near .now) (g .feed .now) (g .sums .now) (g .impacts .now) (g .line) (s .pre .0) (λ h. c .before .if1 .left (c .before .before .near-state .ensures ∙ h)) in
     end-there (g .net .now) (g .near .now) (g .feed .now) (g .sums .now) (g .impacts .now) (g .line) (s .pre .0) _ (m .0) (m .1)
 
--- src/lib.rt:44:21
 sub-result-2 : tie.Need-sub-result-2
 sub-result-2 c =
     let s = c .before .before .before .before .before .before in
     let g = s .args in
     omega (arith, feeder-there (g .net .now) (g .near .now) (g .feed .now) (g .sums .now) (g .impacts .now) (g .line) (s .pre .0) (λ h. c .before .before .before .if1 .left (c .before .before .before .before .near-state .ensures ∙ h)))
 
--- src/lib.rt:44:16
 mul-result-2 : tie.Need-mul-result-2
 mul-result-2 c =
     let s = c .before .before .before .before .before .before in
     let g = s .args in
     omega (arith, feeder-there (g .net .now) (g .near .now) (g .feed .now) (g .sums .now) (g .impacts .now) (g .line) (s .pre .0) (λ h. c .before .before .before .if1 .left (c .before .before .before .before .near-state .ensures ∙ h)))
 
--- src/lib.rt:44:16
 element-copy-out-result-2 : tie.Need-element-copy-out-result-2
 element-copy-out-result-2 c =
     let s = c .before .before .before .before .before .before in
     let g = s .args in
     omega (arith, feeder-there (g .net .now) (g .near .now) (g .feed .now) (g .sums .now) (g .impacts .now) (g .line) (s .pre .0) (λ h. c .before .before .before .if1 .left (c .before .before .before .before .near-state .ensures ∙ h)))
 
--- src/lib.rt:44:9
 returns-2 : tie.Need-returns-2
 returns-2 c =
     let s = c .before .before .before .before .before .before .before in
     let g = s .args in
     feeder-sum (g .net .now) (g .near .now) (g .feed .now) (g .sums .now) (g .impacts .now) (g .line) (s .pre .0) (λ h. c .before .before .before .before .if1 .left (c .before .before .before .before .before .near-state .ensures ∙ h)) (sym (c .before .before .far-state .ensures) ∙ c .before .if2 .taken)
 
--- src/lib.rt:46:13
 sub-result-3 : tie.Need-sub-result-3
 sub-result-3 c =
     let s = c .before .before .before .before .before .before in
     let g = s .args in
     omega (arith, feeder-there (g .net .now) (g .near .now) (g .feed .now) (g .sums .now) (g .impacts .now) (g .line) (s .pre .0) (λ h. c .before .before .before .if1 .left (c .before .before .before .before .near-state .ensures ∙ h)))
 
--- src/lib.rt:46:5
 mul-result-3 : tie.Need-mul-result-3
 mul-result-3 c =
     let s = c .before .before .before .before .before .before in
     let g = s .args in
     omega (arith, feeder-there (g .net .now) (g .near .now) (g .feed .now) (g .sums .now) (g .impacts .now) (g .line) (s .pre .0) (λ h. c .before .before .before .if1 .left (c .before .before .before .before .near-state .ensures ∙ h)))
 
--- src/lib.rt:46:5
 shared-slice-read-result : tie.Need-shared-slice-read-result
 shared-slice-read-result c =
     let s = c .before .before .before .before .before .before .before in
     let g = s .args in
     omega (arith, feeder-there (g .net .now) (g .near .now) (g .feed .now) (g .sums .now) (g .impacts .now) (g .line) (s .pre .0) (λ h. c .before .before .before .before .if1 .left (c .before .before .before .before .before .near-state .ensures ∙ h)))
 
--- src/lib.rt:35:1
 returns-3 : tie.Need-returns-3
 returns-3 c =
     let s = c .before .before .before .before .before .before .before in

@@ -1,16 +1,12 @@
 use borrow.Author.Needs.{needs}
 use Prim.Native.Nat.{_-_, _≤_}
-use mathlib.Core.Path.{_≡_, _∙_, subst}
+use mathlib.Core.Path.{_≡_, subst}
 use native.Mathlib.Omega.{arith}
 use lib.ListN.{length, length-set}
 use Rattle.buffer.specs.Buffer.{networkIn}
 use Rattle.outage.proofs.Order.{Done, next-known, done-more, done-all}
 use Rattle.outage.proofs.impacts_outwards.Statement.{statement}
 use Rattle.outage.proofs.impacts_outwards.Tie as tie
-use Rattle.outage.proofs.impacts_outwards.Reads as reads
-use Rattle.outage.proofs.impacts_outwards.Lts as lts
-use Rattle.buffer.proofs.lines.Reads as lines-reads
-use Rattle.outage.proofs.impact_of.Reads as impact-of-reads
 
 abbrev Inv-loop : tie.InvT-loop
 Inv-loop net near feed order sums out₀ i₀ i-end out i =
@@ -19,23 +15,18 @@ Inv-loop net near feed order sums out₀ i₀ i-end out i =
 abbrev μ-loop : tie.MeasureT-loop
 μ-loop net near feed order sums out₀ i₀ i-end out i = i-end - i
 
--- src/lib.rt:54:17
 lines-requires : tie.Need-lines-requires Inv-loop μ-loop
 lines-requires c κs = search needs
 
--- src/lib.rt:54:5
 loop-holds : tie.Need-loop-holds Inv-loop μ-loop
 loop-holds c = (omega arith, omega arith, omega arith, λ j h. absurd (omega arith))
 
--- src/lib.rt:55:20
 mul-line : tie.Need-mul-line Inv-loop μ-loop
 mul-line c = omega arith
 
--- src/lib.rt:55:20
 element-copy-out-line : tie.Need-element-copy-out-line Inv-loop μ-loop
 element-copy-out-line c = omega arith
 
--- src/lib.rt:56:25
 impact-of-requires : tie.Need-impact-of-requires Inv-loop μ-loop
 impact-of-requires c κs =
     let s = c .before .before .before .before .before .before in
@@ -43,33 +34,27 @@ impact-of-requires c κs =
     let h = c .before .before .before .loop in
     (next-known (g .net .now) (g .near .now) (g .feed .now) (g .order .now) (g .sums .now) (s .pre .0) (s .pre .1) (s .pre .2) (s .pre .3) (h .out) (h .i) (omega arith) (h .inv .3), omega arith)
 
--- src/lib.rt:56:13
 sub-out : tie.Need-sub-out Inv-loop μ-loop
 sub-out c =
     let s = c .before .before .before .before .before .before .before in
     omega (arith, s .pre .2 .inside (c .before .before .before .before .loop .i) (omega arith), s .pre .0 .lines)
 
--- src/lib.rt:56:9
 mul-out : tie.Need-mul-out Inv-loop μ-loop
 mul-out c =
     let s = c .before .before .before .before .before .before .before in
     omega (arith, s .pre .2 .inside (c .before .before .before .before .loop .i) (omega arith), s .pre .0 .lines)
 
--- src/lib.rt:56:9
 slice-write-out : tie.Need-slice-write-out Inv-loop μ-loop
 slice-write-out c =
     let s = c .before .before .before .before .before .before .before in
     omega (arith, s .pre .2 .inside (c .before .before .before .before .loop .i) (omega arith), s .pre .0 .lines)
 
--- src/lib.rt:54:9
 add-i : tie.Need-add-i Inv-loop μ-loop
 add-i c = omega arith
 
--- src/lib.rt:54:5
 loop-less : tie.Need-loop-less Inv-loop μ-loop
 loop-less c = omega arith
 
--- src/lib.rt:54:5
 loop-again : tie.Need-loop-again Inv-loop μ-loop
 loop-again c =
     let s = c .before .before .before .before .before .before .before in
@@ -77,11 +62,9 @@ loop-again c =
     let h = c .before .before .before .before .loop in
     (omega arith, omega arith, simp length-set (h .inv .2), done-more (g .net .now) (g .near .now) (g .feed .now) (g .order .now) (g .sums .now) (s .pre .0) (s .pre .1) (s .pre .2) (s .pre .3) (h .out) (h .i) (c .impact-of .result) (omega arith) (omega arith) (c .impact-of .ensures) (h .inv .3))
 
--- src/lib.rt:50:1
 same-length : tie.Need-same-length Inv-loop μ-loop
 same-length c = omega arith
 
--- src/lib.rt:50:1
 returns : tie.Need-returns Inv-loop μ-loop
 returns c =
     let s = c .before .before .before .before in

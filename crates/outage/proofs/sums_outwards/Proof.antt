@@ -13,12 +13,6 @@ use Rattle.outage.proofs.Calls.{read-fits}
 use Rattle.outage.proofs.HVStations.{AtHV, hv-none, hv-skip, hv-more, hv-all}
 use Rattle.outage.proofs.sums_outwards.Statement.{statement}
 use Rattle.outage.proofs.sums_outwards.Tie as tie
-use Rattle.outage.proofs.sums_outwards.Reads as reads
-use Rattle.outage.proofs.sums_outwards.Lts as lts
-use Rattle.buffer.proofs.is_hv.Reads as is-hv-reads
-use Rattle.buffer.proofs.lines.Reads as lines-reads
-use Rattle.buffer.proofs.stations.Reads as stations-reads
-use Rattle.outage.proofs.station_sum.Reads as station-sum-reads
 
 abbrev Inv-loop : tie.InvT-loop
 Inv-loop net heads nexts sums₀ levels station₀ station-end sums station =
@@ -27,11 +21,9 @@ Inv-loop net heads nexts sums₀ levels station₀ station-end sums station =
 abbrev μ-loop : tie.MeasureT-loop
 μ-loop net heads nexts sums₀ levels station₀ station-end sums station = station-end - station
 
--- src/lib.rt:82:22
 lines-requires : tie.Need-lines-requires Inv-loop μ-loop
 lines-requires c κs = search needs
 
--- src/lib.rt:82:18
 mul-levels : tie.Need-mul-levels Inv-loop μ-loop
 mul-levels c =
     let s = c .before .before in
@@ -39,7 +31,6 @@ mul-levels c =
     let N = networkIn (g .net .now) in
     omega (arith, read-fits N (s .pre .0 .read) .lines)
 
--- src/lib.rt:82:18
 add-levels : tie.Need-add-levels Inv-loop μ-loop
 add-levels c =
     let s = c .before .before in
@@ -47,11 +38,9 @@ add-levels c =
     let N = networkIn (g .net .now) in
     omega (arith, read-fits N (s .pre .0 .read) .lines)
 
--- src/lib.rt:83:23
 stations-requires : tie.Need-stations-requires Inv-loop μ-loop
 stations-requires c κs = search needs
 
--- src/lib.rt:83:23
 add-station-end : tie.Need-add-station-end Inv-loop μ-loop
 add-station-end c =
     let s = c .before .before .before in
@@ -59,7 +48,6 @@ add-station-end c =
     let N = networkIn (g .net .now) in
     omega (arith, read-fits N (s .pre .0 .read) .stations)
 
--- src/lib.rt:83:5
 loop-holds : tie.Need-loop-holds Inv-loop μ-loop
 loop-holds c =
     let s = c .before .before .before in
@@ -67,7 +55,6 @@ loop-holds c =
     let N = networkIn (g .net .now) in
     (omega arith, omega arith, omega arith, refl, hv-none N (g .sums .now) (s .pre .0 .read))
 
--- src/lib.rt:84:12
 is-hv-requires : tie.Need-is-hv-requires Inv-loop μ-loop
 is-hv-requires c κs =
     let s = c .before .before .before .before .before in
@@ -75,7 +62,6 @@ is-hv-requires c κs =
     let N = networkIn (g .net .now) in
     record { fits = read-fits N (s .pre .0 .read); low = omega arith; high = omega arith }
 
--- src/lib.rt:85:13
 station-sum-requires : tie.Need-station-sum-requires Inv-loop μ-loop
 station-sum-requires c κs =
     let s = c .before .before .before .before .before .before .before .before in
@@ -87,7 +73,6 @@ station-sum-requires c κs =
       h .inv .3 ∙ s .pre .1,
     )
 
--- src/lib.rt:83:9
 add-station : tie.Need-add-station Inv-loop μ-loop
 add-station c =
     let s = c .before .before .before .before .before .before .before in
@@ -95,11 +80,9 @@ add-station c =
     let N = networkIn (g .net .now) in
     omega (arith, read-fits N (s .pre .0 .read) .stations)
 
--- src/lib.rt:83:5
 loop-less : tie.Need-loop-less Inv-loop μ-loop
 loop-less c = omega arith
 
--- src/lib.rt:83:5
 loop-again : tie.Need-loop-again Inv-loop μ-loop
 loop-again c =
     let s = c .before .before .before .before .before .before .before in
@@ -124,11 +107,9 @@ loop-again c =
     ))
     (c .if1 .came)
 
--- src/lib.rt:78:1
 same-length : tie.Need-same-length Inv-loop μ-loop
 same-length c = c .before .loop .inv .3
 
--- src/lib.rt:78:1
 returns : tie.Need-returns Inv-loop μ-loop
 returns c =
     let s = c .before .before .before .before .before in

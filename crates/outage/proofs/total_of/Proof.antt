@@ -4,16 +4,12 @@ use mathlib.Core.Path.{_≡_, ap}
 use native.Mathlib.Omega.{arith}
 use lib.ListN.{length}
 use Rattle.model.specs.Outage.{total}
-use Rattle.theory.specs.Sizes.{total-size}
+use Rattle.theory.specs.Sizes.{total-size, read-sized}
 use Rattle.buffer.specs.Buffer.{networkIn}
+use Rattle.outage.proofs.Calls.{read-fits}
 use Rattle.outage.proofs.Totals.{amountsFrom, amounts-all, amounts-none, amounts-first}
 use Rattle.outage.proofs.total_of.Statement.{statement}
 use Rattle.outage.proofs.total_of.Tie as tie
-use Rattle.outage.proofs.total_of.Reads as reads
-use Rattle.outage.proofs.total_of.Lts as lts
-use Rattle.amounts.proofs.Total.plus.Reads as plus-reads
-use Rattle.buffer.proofs.lines.Reads as lines-reads
-use Rattle.outage.proofs.outage_amount.Reads as outage-amount-reads
 
 abbrev Inv-loop : tie.InvT-loop
 Inv-loop net impacts total₀ line₀ line-end sum line =
@@ -22,48 +18,40 @@ Inv-loop net impacts total₀ line₀ line-end sum line =
 abbrev μ-loop : tie.MeasureT-loop
 μ-loop net impacts total₀ line₀ line-end total line = line-end - line
 
--- src/lib.rt:30:20
 lines-requires : tie.Need-lines-requires Inv-loop μ-loop
 lines-requires c κs = search needs
 
--- src/lib.rt:30:20
 add-line-end : tie.Need-add-line-end Inv-loop μ-loop
-add-line-end c = omega arith
+add-line-end c = let s = c .before in let N = networkIn (s .args .net .now) in omega (arith, read-fits N (s .pre .0) .lines)
 
--- src/lib.rt:30:5
 loop-holds : tie.Need-loop-holds Inv-loop μ-loop
 loop-holds c =
     let N = networkIn (c .before .args .net .now) in
     omega (arith, amounts-all N, ap (amountsFrom N 1) {x = c .lines .result + 1} {y = length (N .lines) + 1} (omega arith))
 
--- src/lib.rt:31:28
 outage-amount-requires : tie.Need-outage-amount-requires Inv-loop μ-loop
 outage-amount-requires c κs =
     let s = c .before .before .before in
-    (search needs, search needs, s .pre .2 (c .before .loop .line) (omega arith) (omega arith))
+    let N = networkIn (s .args .net .now) in
+    (record { fits = read-fits N (s .pre .0); low = omega arith; high = omega arith }, read-sized N (s .pre .0), s .pre .1 (c .before .loop .line) (omega arith) (omega arith))
 
--- src/lib.rt:31:9
 plus-requires : tie.Need-plus-requires Inv-loop μ-loop
 plus-requires c κs =
     let s = c .before .before .before .before in
     let N = networkIn (s .args .net .now) in
-    omega (arith, amounts-first N (c .before .before .loop .line) (c .before .before .before .lines .result + 1) (omega arith), total-size N (s .pre .1))
+    omega (arith, amounts-first N (c .before .before .loop .line) (c .before .before .before .lines .result + 1) (omega arith), total-size N (read-sized N (s .pre .0)))
 
--- src/lib.rt:30:9
 add-line : tie.Need-add-line Inv-loop μ-loop
 add-line c = omega arith
 
--- src/lib.rt:30:5
 loop-less : tie.Need-loop-less Inv-loop μ-loop
 loop-less c = omega arith
 
--- src/lib.rt:30:5
 loop-again : tie.Need-loop-again Inv-loop μ-loop
 loop-again c =
     let N = networkIn (c .before .before .before .before .before .args .net .now) in
     omega (arith, amounts-first N (c .before .before .before .loop .line) (c .before .before .before .before .lines .result + 1) (omega arith))
 
--- src/lib.rt:25:1
 returns : tie.Need-returns Inv-loop μ-loop
 returns c =
     let N = networkIn (c .before .before .before .args .net .now) in

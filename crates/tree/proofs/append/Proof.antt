@@ -16,11 +16,14 @@ loop-holds c = following-start _ _ _ _ _ _ _ _ (c .pre)
 add-line : tie.Need-add-line Inv-loop μ-loop
 add-line c = search needs
 
+add-near : tie.Need-add-near Inv-loop μ-loop
+add-near c = search needs
+
+add-near-2 : tie.Need-add-near-2 Inv-loop μ-loop
+add-near-2 c = search needs
+
 sub-near : tie.Need-sub-near Inv-loop μ-loop
 sub-near c = search needs
-
-sub-near-2 : tie.Need-sub-near-2 Inv-loop μ-loop
-sub-near-2 c = search needs
 
 mul-near : tie.Need-mul-near Inv-loop μ-loop
 mul-near c = search needs
@@ -80,8 +83,9 @@ append-spec =
     μ-loop
     loop-holds
     add-line
+    add-near
+    add-near-2
     sub-near
-    sub-near-2
     mul-near
     element-write-near
     sub-feed
