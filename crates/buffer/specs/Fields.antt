@@ -70,7 +70,7 @@ module _ (b : List ℕ) where
     customers-at = ap (λ (x : Station). x .customers) station-at ∙ number-at 2 (9 + 2 * (s - 1)) 1 (2 * s + 8) b (omega arith) (omega arith)
 
   module _ (l : ℕ) (a : 1 ≤ l) (h : l ≤ length (networkIn b .lines)) where
-    line-at : lineIn b l ≡ lineOf (take 5 (drop (1033 + 5 * (l - 1)) b))
+    pub line-at : lineIn b l ≡ lineOf (take 5 (drop (1033 + 5 * (l - 1)) b))
     unfolding networkIn headOf
     line-at = record-at lineOf noLine 5 1033 (getD b 1 0) b l a (omega (arith, line-count))
 

@@ -45,7 +45,7 @@ module _ (M N : Network) (i : (e : End) → isBreaker N e ≡ true → isBreaker
       λ j. b .0 j && any-mono (tooMany N) (tooMany M) (paths N (station t)) grows (b .1) j) h
 
 -- the sum over two sets together
-sum-append : (f : ℕ → ℕ) (S T : List ℕ) → sum (map f (S ++ T)) ≡ sum (map f S) + sum (map f T)
+pub sum-append : (f : ℕ → ℕ) (S T : List ℕ) → sum (map f (S ++ T)) ≡ sum (map f S) + sum (map f T)
 unfolding sum
 sum-append f [] T = omega arith
 sum-append f (p ∷ S) T = omega (arith, sum-append f S T)

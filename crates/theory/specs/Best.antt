@@ -49,7 +49,7 @@ valid-part N (Sublistᴰ·cons-cons {a = p} e s) h = (h p (List·Memᴰ·head e)
 
 module _ (N : Network) (a : Accepted N) where
   -- a place is on a plain end
-  place-closed : (p : ℕ) → List·Memᴰ p (placeNumbers N) → isOpen N (endAt N p) ≡ false
+  pub place-closed : (p : ℕ) → List·Memᴰ p (placeNumbers N) → isOpen N (endAt N p) ≡ false
   unfolding placeNumbers placeAt state
   place-closed p m =
       let i = numbers-in p 1 (length (N .places)) m in

@@ -149,12 +149,12 @@ insert-most most x (y ∷ ys) h a = go (leb y x) (insert-most most x ys h (a .1)
     go true r = (h, a)
     go false r = (a .0, r)
 
-falling-most : (most : ℕ) (xs : List ℕ) → All (λ y. y ≤ most) xs → All (λ y. y ≤ most) (falling xs)
+pub falling-most : (most : ℕ) (xs : List ℕ) → All (λ y. y ≤ most) xs → All (λ y. y ≤ most) (falling xs)
 unfolding falling
 falling-most most [] a = tt
 falling-most most (x ∷ xs) a = insert-most most x (falling xs) (a .0) (falling-most most xs (a .1))
 
-take-most : (most r : ℕ) (xs : List ℕ) → All (λ y. y ≤ most) xs → sum (take r xs) ≤ r * most
+pub take-most : (most r : ℕ) (xs : List ℕ) → All (λ y. y ≤ most) xs → sum (take r xs) ≤ r * most
 unfolding sum
 take-most most zero xs a = omega arith
 take-most most (suc r) [] a = omega arith

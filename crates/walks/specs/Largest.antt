@@ -16,7 +16,7 @@ front [] = 0
 front (x ∷ xs) = x
 
 -- no number is above the one before it
-abbrev Falls : List ℕ → Type 0
+abbrev pub Falls : List ℕ → Type 0
 Falls [] = Unit {0}
 Falls (x ∷ xs) = (front xs ≤ x) × Falls xs
 
@@ -40,7 +40,7 @@ insert-falls x (y ∷ ys) f = go (leb y x) refl (insert-falls x ys (f .1))
     go true e ih = rw (e, insert) (leb-true y x e, f)
     go false e ih = rw (e, insert) (insert-front y x ys (omega (arith, leb-false y x e)) (f .0), ih)
 
-falling-falls : (xs : List ℕ) → Falls (falling xs)
+pub falling-falls : (xs : List ℕ) → Falls (falling xs)
 unfolding falling
 falling-falls [] = tt
 falling-falls (x ∷ xs) = insert-falls x (falling xs) (falling-falls xs)

@@ -1,0 +1,11 @@
+pub mod Heads
+pub mod Inserting
+pub mod Columns
+pub mod Copying
+pub mod Visiting
+pub mod Carrying
+pub mod Entering
+pub mod Trying
+pub mod Extending
+pub mod Saving
+pub mod Starting

@@ -1,0 +1,56 @@
+use mathlib.Core.Path.{_≡_, sym, _∙_}
+use native.Mathlib.Omega.{arith}
+use lib.ListN.{take}
+use Rattle.model.specs.Walk.{Found}
+use Rattle.buffer.specs.Buffer.{networkIn}
+use Rattle.search.specs.Walking.{foundIn}
+use Rattle.search.proofs.Heads.{visits-at}
+use Rattle.search.proofs.Visiting.{visit-spent, visit-better, visit-other}
+use borrow.Author.Needs.{needs}
+use Rattle.search.proofs.visit.Statement.{statement}
+use Rattle.search.proofs.visit.Tie as tie
+
+element-copy-out-if1 : tie.Need-element-copy-out-if1
+element-copy-out-if1 c = search needs
+
+returns : tie.Need-returns
+returns c =
+    let d = c .before .before .before in
+    let n = networkIn (d .args .net .now) in
+    let S = take (d .args .size) (d .args .set .now) in
+    let f : Found = foundIn (d .args .progress) (d .args .best .now) in
+    let k = d .pre .4 in
+    (d .pre .1, record { best = k .best; visits = k .visits; limit = k .limit }, visit-spent n S f (c .if1 .taken ∙ sym (visits-at (d .args .net .now))))
+
+add-visits : tie.Need-add-visits
+add-visits c = search needs
+
+copy-set-requires : tie.Need-copy-set-requires
+copy-set-requires c κs = search needs
+
+returns-2 : tie.Need-returns-2
+returns-2 c =
+    let d = c .before .before .before .before .before .before .before .before in
+    let n = networkIn (d .args .net .now) in
+    let S = take (d .args .size) (d .args .set .now) in
+    let f : Found = foundIn (d .args .progress) (d .args .best .now) in
+    let k = c .copy-set in
+    let l : d .args .progress .visits ≡ n .head .visits → ⊥ = λ e. c .before .before .before .before .before .if1 .left (e ∙ visits-at (d .args .net .now)) in (
+      k .ensures .0,
+      record { best = omega arith; visits = omega arith; limit = d .pre .4 .limit },
+      visit-better n S f (take (d .args .size) (k .last .1 .1 .0)) (d .args .total) (k .ensures .1) (d .pre .3) l (c .before .before .if2 .taken),
+    )
+
+returns-3 : tie.Need-returns-3
+returns-3 c =
+    let d = c .before .before .before .before .before .before in
+    let n = networkIn (d .args .net .now) in
+    let S = take (d .args .size) (d .args .set .now) in
+    let f : Found = foundIn (d .args .progress) (d .args .best .now) in
+    let l : d .args .progress .visits ≡ n .head .visits → ⊥ = λ e. c .before .before .before .if1 .left (e ∙ visits-at (d .args .net .now)) in
+    (d .pre .1, record { best = d .pre .4 .best; visits = omega arith; limit = d .pre .4 .limit }, visit-other n S f (d .args .total) (d .pre .3) l (c .if2 .left))
+
+pub visit-spec : {M : Type 1} → statement M
+visit-spec =
+    tie.close
+    (tie.spec element-copy-out-if1 returns add-visits copy-set-requires returns-2 returns-3)
