@@ -211,10 +211,8 @@ pub fn total(file: &[u8]) -> TotalAnswer
         CheckAnswer::Refused { number, record } => TotalAnswer::Refused { number, record },
         CheckAnswer::Accepted => {
             let total = outage::total_of(&net, &impacts).number();
-            TotalAnswer::Outage {
-                total,
-                figure: buffer::minutes(&net) * total,
-            }
+            let figure = buffer::minutes(&net) * total;
+            TotalAnswer::Outage { total, figure }
         }
     }
 }

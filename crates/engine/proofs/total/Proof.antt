@@ -55,9 +55,9 @@ minutes-requires : tie.Need-minutes-requires
 minutes-requires c κs = search needs
 
 -- src/lib.rt:216:25
-mul-t18 : tie.Need-mul-t18
+mul-figure : tie.Need-mul-figure
 unfolding figure
-mul-t18 c =
+mul-figure c =
     let n = c .before .before in
     let t = n .before in
     let k = t .before .before .before in
@@ -99,6 +99,6 @@ total-spec =
     total-of-requires
     number-requires
     minutes-requires
-    mul-t18
+    mul-figure
     returns
     returns-2)
