@@ -15,7 +15,7 @@ use Rattle.text.proofs.Over.{over, over-length, over-set, over-part}
 unfoldable pub lineStart : ℕ → List ℕ → List ℕ
 lineStart letter ns = letter ∷ flatMap (λ n. comma ∷ decimal n) ns
 
-flatMap-append : (f : ℕ → List ℕ) (a b : List ℕ) → flatMap f (a ++ b) ≡ flatMap f a ++ flatMap f b
+pub flatMap-append : (f : ℕ → List ℕ) (a b : List ℕ) → flatMap f (a ++ b) ≡ flatMap f a ++ flatMap f b
 unfolding flatMap
 flatMap-append f [] b = refl
 flatMap-append f (x ∷ a) b = rw (flatMap-append f a b, append-assoc)

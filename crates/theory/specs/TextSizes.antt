@@ -76,7 +76,7 @@ module _ (N : Network) (a : Accepted N) where
   unfolding lineA sum
   lineA-length = line-width 65 (total N ∷ figure N ∷ []) (15 ∷ 19 ∷ []) (omega (arith, total-size N sized), (omega (arith, figure-size N sized), tt))
 
-  lineF-length : (l : ℕ) → l ≤ 768 → length (lineF N l) ≤ 30
+  pub lineF-length : (l : ℕ) → l ≤ 768 → length (lineF N l) ≤ 30
   unfolding lineF sum
   lineF-length l h = line-width 70 (l ∷ impact N l ∷ outageAmount N l ∷ []) (2 ∷ 7 ∷ 13 ∷ []) (omega arith, (omega (arith, impact-size N sized l), (omega (arith, outageAmount-size N sized l), tt)))
 

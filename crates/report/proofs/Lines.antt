@@ -1,0 +1,36 @@
+-- The lines of a report, from the numbers that are printed.
+use Prim.Native.Nat.{ℕ, _*_}
+use mathlib.Core.Path.{_≡_, ap, ap₂, _∙_}
+use mathlib.Core.List.{List, [], _∷_, _++_}
+use lib.ListN.{length, drop}
+use Rattle.model.specs.Lists.{numbered}
+use Rattle.model.specs.Network.{Network, noLine}
+use Rattle.model.specs.Outage.{impact, total, figure}
+use Rattle.model.specs.Sets.{placeAt}
+use Rattle.model.specs.Text.{printedLine, lineA, lineF, lineB}
+use Rattle.outage.proofs.Totals.{amount-is}
+
+-- a text over the start of a list is an equal text over it
+pub same-text : (s t b d : List ℕ) (n : ℕ) → s ≡ t → n ≡ length s → d ≡ s ++ drop (length s) b → (n ≡ length t) × (d ≡ t ++ drop (length t) b)
+same-text s t b d n e p q = (p ∙ ap length e, q ∙ ap (λ (l : List ℕ). l ++ drop (length l) b) e)
+
+module _ (N : Network) where
+  pub figure-is : (m t : ℕ) → m ≡ N .head .minutes → t ≡ total N → m * t ≡ figure N
+  unfolding figure
+  figure-is m t p q = ap₂ (λ x y. x * y) p q
+
+  pub lineA-is : (m t : ℕ) → m ≡ N .head .minutes → t ≡ total N → printedLine 65 (t ∷ m * t ∷ []) ≡ lineA N
+  unfolding lineA
+  lineA-is m t p q = ap₂ (λ (x y : ℕ). printedLine 65 (x ∷ y ∷ [])) q (figure-is m t p q)
+
+  pub lineF-is : (l w c : ℕ) → w ≡ numbered noLine (N .lines) l .weight → c ≡ impact N l → printedLine 70 (l ∷ c ∷ w * c ∷ []) ≡ lineF N l
+  unfolding lineF
+  lineF-is l w c p q = ap₂ (λ (x y : ℕ). printedLine 70 (l ∷ x ∷ y ∷ [])) q (amount-is N l w c p q)
+
+  pub lineB-is : (p x y : ℕ) → x ≡ placeAt N p .line → y ≡ placeAt N p .side → printedLine 66 (x ∷ y ∷ []) ≡ lineB N p
+  unfolding lineB
+  lineB-is p x y e f = ap₂ (λ (x y : ℕ). printedLine 66 (x ∷ y ∷ [])) e f
+
+-- the line of an outcome, with an equal number in front
+pub outcome-is : (m n v k t : ℕ) → m ≡ n → printedLine 67 (m ∷ v ∷ k ∷ t ∷ []) ≡ printedLine 67 (n ∷ v ∷ k ∷ t ∷ [])
+outcome-is m n v k t e = ap (λ (x : ℕ). printedLine 67 (x ∷ v ∷ k ∷ t ∷ [])) e

@@ -1,0 +1,65 @@
+-- The parts of a report, one behind another.
+use Prim.Native.Nat.{ℕ, zero, suc, _+_, _-_, _≤_, _<_}
+use mathlib.Core.Path.{_≡_, sym, ap, _∙_}
+use mathlib.Core.Bool.{Bool, true, false}
+use mathlib.Core.List.{List, [], _∷_, _++_, flatMap, Sublistᴰ, Sublistᴰ·slnil, Sublistᴰ·cons, Sublistᴰ·cons-cons, List·Memᴰ, List·Memᴰ·head, List·Memᴰ·tail}
+use native.Mathlib.Omega.{arith}
+use lib.ListN.{length, getD, take, drop, length-append}
+use lib.Seq.{length-take-le, getD-take}
+use borrow.Rule.Slice.PartMut.{putMid}
+use Rattle.model.specs.Network.{Network}
+use Rattle.model.specs.Paths.{lineNumbers}
+use Rattle.model.specs.Sets.{placeNumbers}
+use Rattle.model.specs.Walk.{Found, search}
+use Rattle.model.specs.Text.{printedLine, lineA, lineF, lineC, lineB, reportText}
+use Rattle.theory.specs.Ends.{numbers-in}
+use Rattle.theory.specs.Best.{search-answered}
+use Rattle.buffer.specs.Buffer.{networkIn}
+use Rattle.outage.proofs.Calls.{read-fits}
+use Rattle.text.proofs.Over.{over, over-part}
+use Rattle.report.specs.Ready.{ArePlaces, Answered}
+
+-- a text behind another
+pub behind : (s t b w d : List ℕ) (q n : ℕ) → (q ≡ length s) × (w ≡ over s b) → n ≡ length t → d ≡ over t (take (length w - q) (drop q w))
+    → (q + n ≡ length (s ++ t)) × (putMid q (length w - q) w d ≡ over (s ++ t) b)
+behind s t b w d q n g en e = (omega (arith, g .0, length-append s t), over-part s b w q (g .1) (g .0) t d e)
+
+-- what every element of a list has, every element of a part of it has
+part-has : (P : ℕ → Type 0) {S xs : List ℕ} → Sublistᴰ S xs → ((p : ℕ) → List·Memᴰ p xs → P p) → (i : ℕ) → i < length S → P (getD S i 0)
+part-has P Sublistᴰ·slnil h i k = absurd (omega arith)
+part-has P (Sublistᴰ·cons s) h i k = part-has P s (λ p m. h p (List·Memᴰ·tail m)) i k
+part-has P (Sublistᴰ·cons-cons {a = p} e s) h zero k = h p (List·Memᴰ·head e)
+part-has P (Sublistᴰ·cons-cons e s) h (suc i) k = part-has P s (λ p m. h p (List·Memᴰ·tail m)) i (omega arith)
+
+member-within : (N : Network) {S : List ℕ} → Sublistᴰ S (placeNumbers N) → (i : ℕ) → i < length S → (1 ≤ getD S i 0) × (getD S i 0 ≤ length (N .places))
+unfolding placeNumbers
+member-within N s = part-has (λ p. (1 ≤ p) × (p ≤ length (N .places))) s (λ p m. let r = numbers-in p 1 (length (N .places)) m in (r .0, omega (arith, r .1)))
+
+module _ (N : Network) (impacts : List ℕ) (amount : ℕ) (members : List ℕ) (count best visits : ℕ) (spent : Bool)
+    (long : length members ≡ 16) (a : Answered N impacts amount members count best visits spent) where
+  counted : length (take count members) ≡ count
+  counted = length-take-le count members (omega (arith, long, a .few))
+
+  -- the members of the search are places
+  pub member-place : (i : ℕ) → i < count → (1 ≤ getD members i 0) × (getD members i 0 ≤ length (N .places))
+  member-place i h =
+      let e : take count members ≡ search N .members = ap (λ (f : Found). f .members) (a .found) in
+      let r = member-within N (search-answered N (a .accepted) .isAllowed .places) i (omega (arith, ap (λ (l : List ℕ). length l) e, counted)) in
+      let k : getD (search N .members) i 0 ≡ getD members i 0 = ap (λ (l : List ℕ). getD l i 0) (sym e) ∙ getD-take count members i 0 h in
+      (omega (arith, r .0, k), omega (arith, r .1, k))
+
+  pub report-is :
+      ((lineA N ++ flatMap (λ l. lineF N l) (lineNumbers N)) ++ printedLine 67 ((elim spent [ true ↦ 0 | false ↦ 1 ]) ∷ visits ∷ count ∷ best ∷ []))
+      ++ flatMap (λ p. lineB N p) (take count members) ≡ reportText N
+  unfolding reportText lineC
+  report-is =
+      let s : List ℕ = lineA N ++ flatMap (λ l. lineF N l) (lineNumbers N) in
+      ap (λ (n : ℕ). (s ++ printedLine 67 ((elim spent [ true ↦ 0 | false ↦ 1 ]) ∷ visits ∷ n ∷ best ∷ [])) ++ flatMap (λ p. lineB N p) (take count members)) (sym counted)
+      ∙ ap (λ (f : Found). (s ++ lineC f) ++ flatMap (λ p. lineB N p) (f .members)) (a .found)
+
+-- the members of the search are places of the buffer's network
+pub are-places : (b impacts : List ℕ) (amount : ℕ) (members : List ℕ) (count best visits : ℕ) (spent : Bool) → length members ≡ 16
+    → Answered (networkIn b) impacts amount members count best visits spent → ArePlaces b members count
+are-places b impacts amount members count best visits spent long a i h =
+    let r = member-place (networkIn b) impacts amount members count best visits spent long a i h in
+    record { fits = read-fits (networkIn b) (a .accepted .read); low = r .0; high = r .1 }

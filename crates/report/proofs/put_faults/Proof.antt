@@ -1,0 +1,93 @@
+use borrow.Author.Needs.{needs}
+use Prim.Native.Nat.{_+_, _-_, _*_, _≤_}
+use mathlib.Core.Path.{_≡_, refl}
+use native.Mathlib.Omega.{arith}
+use lib.ListN.{length, length-take, length-drop}
+use Rattle.model.specs.Paths.{lineNumbers}
+use Rattle.model.specs.Text.{lineF}
+use Rattle.theory.specs.Sizes.{read-sized}
+use Rattle.buffer.specs.Buffer.{networkIn}
+use Rattle.text.proofs.Over.{over}
+use Rattle.report.proofs.Listing.{Listed, listed-none, listed-more, listed-all, lines-length, line-is}
+use Rattle.report.proofs.put_faults.Statement.{statement}
+use Rattle.report.proofs.put_faults.Tie as tie
+
+abbrev Inv-loop : tie.InvT-loop
+Inv-loop net impacts buf₀ at₀ i₀ i-end buf at i =
+    (i-end ≡ length (networkIn net .lines)) × (i ≤ i-end) × (at ≤ 30 * i) × Listed (λ l. lineF (networkIn net) l) (lineNumbers (networkIn net)) buf₀ buf at i
+
+abbrev μ-loop : tie.MeasureT-loop
+μ-loop net impacts buf₀ at₀ i₀ i-end buf at i = i-end - i
+
+lines-requires : tie.Need-lines-requires Inv-loop μ-loop
+lines-requires c κs = search needs
+
+loop-holds : tie.Need-loop-holds Inv-loop μ-loop
+loop-holds c = (search needs, omega arith, omega arith, listed-none _ _ _)
+
+add-put-fault : tie.Need-add-put-fault Inv-loop μ-loop
+add-put-fault c = search needs
+
+sub-put-fault : tie.Need-sub-put-fault Inv-loop μ-loop
+sub-put-fault c = search needs
+
+part-put-fault-start : tie.Need-part-put-fault-start Inv-loop μ-loop
+part-put-fault-start c = search needs
+
+part-put-fault-end : tie.Need-part-put-fault-end Inv-loop μ-loop
+part-put-fault-end c = search needs
+
+put-fault-requires : tie.Need-put-fault-requires Inv-loop μ-loop
+put-fault-requires c κs =
+    let s = c .before .before .before .before .before in
+    (s .pre .0, s .pre .1, omega arith, omega arith, simp (length-take, length-drop) (omega (arith, read-sized _ (s .pre .0 .read) .lineCount)))
+
+add-at : tie.Need-add-at Inv-loop μ-loop
+add-at c = search needs
+
+add-i : tie.Need-add-i Inv-loop μ-loop
+add-i c = search needs
+
+loop-less : tie.Need-loop-less Inv-loop μ-loop
+loop-less c = search needs
+
+loop-again : tie.Need-loop-again Inv-loop μ-loop
+unfolding over
+loop-again c =
+    let s = c .before .before .before .before .before .before .before .before in
+    let N = networkIn (s .args .net .now) in
+    let g = c .before .before .before .before .before .loop in
+    let p = c .before .before .put-fault in
+    (g .inv .0, omega arith, omega arith, listed-more _ _ _ _ _ _ _ _ _ (omega (arith, lines-length N)) (line-is N (g .i) (omega arith)) (omega (arith, read-sized N (s .pre .0 .read) .lineCount)) (g .inv .3) (p .ensures .0) (p .ensures .1))
+
+same-length : tie.Need-same-length Inv-loop μ-loop
+same-length c = c .before .loop .inv .3 .long
+
+returns : tie.Need-returns Inv-loop μ-loop
+unfolding over
+returns c =
+    let s = c .before .before .before .before in
+    let N = networkIn (s .args .net .now) in
+    let g = c .before .loop in
+    let t = listed-all _ _ _ _ _ (g .i) (omega (arith, lines-length N)) (g .inv .3) in
+    (t .0, t .1, omega (arith, read-sized N (s .pre .0 .read) .lineCount))
+
+pub put-faults-spec : {M : Type 1} → statement M
+put-faults-spec =
+    tie.close
+    (tie.spec
+    Inv-loop
+    μ-loop
+    lines-requires
+    loop-holds
+    add-put-fault
+    sub-put-fault
+    part-put-fault-start
+    part-put-fault-end
+    put-fault-requires
+    add-at
+    add-i
+    loop-less
+    loop-again
+    same-length
+    returns)

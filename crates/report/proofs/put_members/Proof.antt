@@ -1,0 +1,92 @@
+use borrow.Author.Needs.{needs}
+use Prim.Native.Nat.{_+_, _-_, _*_, _≤_}
+use mathlib.Core.Path.{_≡_, sym}
+use native.Mathlib.Omega.{arith}
+use lib.ListN.{length, take, length-take, length-drop}
+use lib.Seq.{length-take-le, getD-take}
+use Rattle.model.specs.Text.{lineB}
+use Rattle.buffer.specs.Buffer.{networkIn}
+use Rattle.text.proofs.Over.{over}
+use Rattle.report.proofs.Listing.{Listed, listed-none, listed-more, listed-all}
+use Rattle.report.proofs.put_members.Statement.{statement}
+use Rattle.report.proofs.put_members.Tie as tie
+
+abbrev Inv-loop : tie.InvT-loop
+Inv-loop net members count buf₀ at₀ i₀ buf at i =
+    (i ≤ count) × (at ≤ 44 * i) × Listed (λ p. lineB (networkIn net) p) (take count members) buf₀ buf at i
+
+abbrev μ-loop : tie.MeasureT-loop
+μ-loop net members count buf₀ at₀ i₀ buf at i = count - i
+
+loop-holds : tie.Need-loop-holds Inv-loop μ-loop
+loop-holds c = (omega arith, omega arith, listed-none _ _ _)
+
+mul-put-member : tie.Need-mul-put-member Inv-loop μ-loop
+mul-put-member c = search needs
+
+shared-slice-read-put-member : tie.Need-shared-slice-read-put-member Inv-loop μ-loop
+shared-slice-read-put-member c = search needs
+
+sub-put-member : tie.Need-sub-put-member Inv-loop μ-loop
+sub-put-member c = search needs
+
+part-put-member-start : tie.Need-part-put-member-start Inv-loop μ-loop
+part-put-member-start c = search needs
+
+part-put-member-end : tie.Need-part-put-member-end Inv-loop μ-loop
+part-put-member-end c = search needs
+
+put-member-requires : tie.Need-put-member-requires Inv-loop μ-loop
+put-member-requires c κs =
+    let s = c .before .before .before .before .before .before in
+    (s .pre .0 (c .before .before .before .loop .i) (omega arith), simp (length-take, length-drop) (omega arith))
+
+add-at : tie.Need-add-at Inv-loop μ-loop
+add-at c = search needs
+
+add-i : tie.Need-add-i Inv-loop μ-loop
+add-i c = search needs
+
+loop-less : tie.Need-loop-less Inv-loop μ-loop
+loop-less c = search needs
+
+loop-again : tie.Need-loop-again Inv-loop μ-loop
+unfolding over
+loop-again c =
+    let s = c .before .before .before .before .before .before .before .before .before in
+    let g = c .before .before .before .before .before .before .loop in
+    let p = c .before .before .put-member in
+    let n = s .args .count in
+    let m = s .args .members .now in
+    (omega arith, omega arith, listed-more _ _ _ _ _ _ _ _ _ (omega (arith, length-take-le n m (omega arith))) (sym (getD-take n m (g .i) 0 (omega arith))) (omega arith) (g .inv .2) (p .ensures .0) (p .ensures .1))
+
+same-length : tie.Need-same-length Inv-loop μ-loop
+same-length c = c .before .loop .inv .2 .long
+
+returns : tie.Need-returns Inv-loop μ-loop
+unfolding over
+returns c =
+    let s = c .before .before .before .before in
+    let g = c .before .loop in
+    let t = listed-all _ _ _ _ _ (g .i) (omega (arith, length-take-le (s .args .count) (s .args .members .now) (omega arith))) (g .inv .2) in
+    (t .0, t .1, omega arith)
+
+pub put-members-spec : {M : Type 1} → statement M
+put-members-spec =
+    tie.close
+    (tie.spec
+    Inv-loop
+    μ-loop
+    loop-holds
+    mul-put-member
+    shared-slice-read-put-member
+    sub-put-member
+    part-put-member-start
+    part-put-member-end
+    put-member-requires
+    add-at
+    add-i
+    loop-less
+    loop-again
+    same-length
+    returns)

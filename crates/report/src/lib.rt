@@ -1,0 +1,106 @@
+// The report of a network: its totals, the impact of a fault on each line, and the breakers that the search found.
+ghost use mathlib.Core.Path.{_≡_};
+ghost use mathlib.Core.Bool.{true, false};
+ghost use mathlib.Core.List.{[], _∷_, _++_, flatMap};
+ghost use Prim.Native.Nat.{_≤_};
+ghost use lib.ListN.{length, take, drop};
+ghost use Rattle.model.specs.Paths.{lineNumbers};
+ghost use Rattle.model.specs.Outage.{total as totalOf};
+ghost use Rattle.model.specs.Text.{printedLine, lineA, lineF, lineB, reportText};
+ghost use Rattle.theory.specs.Best.{Accepted};
+ghost use Rattle.buffer.specs.Buffer.{networkIn};
+ghost use Rattle.buffer.specs.Fits.{PlaceThere};
+ghost use Rattle.outage.specs.Held.{HoldsImpacts};
+ghost use Rattle.report.specs.Ready.{ArePlaces, Answered};
+
+// The A line, with the total and the SAIDI figure, at the start of a buffer; answers its length.
+fn put_totals(net: &[u64; 5129], total: u64, buf: &mut [u8]) -> usize
+    requires { ⌜ Accepted (networkIn (now net)) × (total ≡ totalOf (networkIn (now net))) × (44 ≤ length (now buf)) ⌝ }
+    ensures { λ r. ⌜ (r ≡ length (lineA (networkIn (now (net .entry))))) × (now (buf .exit) ≡ lineA (networkIn (now (net .entry))) ++ drop (length (lineA (networkIn (now (net .entry))))) (now (buf .entry))) × (r ≤ 44) ⌝ }
+{
+    text::put_line(buf, b'A', &[total, buffer::minutes(net) * total])
+}
+
+// The F line of a line, with the impact of a fault and the outage amount; answers its length.
+fn put_fault(net: &[u64; 5129], impacts: &[u64; 768], line: usize, buf: &mut [u8]) -> usize
+    requires { ⌜ Accepted (networkIn (now net)) × HoldsImpacts (networkIn (now net)) (now impacts) × (1 ≤ line) × (line ≤ length (networkIn (now net) .lines)) × (65 ≤ length (now buf)) ⌝ }
+    ensures { λ r. ⌜ (r ≡ length (lineF (networkIn (now (net .entry))) line)) × (now (buf .exit) ≡ lineF (networkIn (now (net .entry))) line ++ drop (length (lineF (networkIn (now (net .entry))) line)) (now (buf .entry))) × (r ≤ 30) ⌝ }
+{
+    let impact = impacts[line - 1];
+    let amount = buffer::weight(net, line) * impact;
+    text::put_line(buf, b'F', &[line as u64, impact, amount])
+}
+
+// The F lines of all lines; answers their length.
+fn put_faults(net: &[u64; 5129], impacts: &[u64; 768], buf: &mut [u8]) -> usize
+    requires { ⌜ Accepted (networkIn (now net)) × HoldsImpacts (networkIn (now net)) (now impacts) × (23105 ≤ length (now buf)) ⌝ }
+    ensures { λ r. ⌜ (r ≡ length (flatMap (λ l. lineF (networkIn (now (net .entry))) l) (lineNumbers (networkIn (now (net .entry)))))) × (now (buf .exit) ≡ flatMap (λ l. lineF (networkIn (now (net .entry))) l) (lineNumbers (networkIn (now (net .entry)))) ++ drop (length (flatMap (λ l. lineF (networkIn (now (net .entry))) l) (lineNumbers (networkIn (now (net .entry)))))) (now (buf .entry))) × (r ≤ 23040) ⌝ }
+{
+    let mut at: usize = 0;
+    for i in 0..buffer::lines(net) {
+        at = at + put_fault(net, impacts, i + 1, &mut buf[at..]);
+    }
+    at
+}
+
+// 1 for a search that finished, 0 for one that is spent.
+fn finished_number(spent: bool) -> u64
+    ensures { λ r. ⌜ r ≡ elim spent [ true ↦ 0 | false ↦ 1 ] ⌝ }
+{
+    if spent { 0 } else { 1 }
+}
+
+// The C line, with the outcome of a search; answers its length.
+fn put_outcome(spent: bool, visits: u64, count: usize, best: u64, buf: &mut [u8]) -> usize
+    requires { ⌜ 86 ≤ length (now buf) ⌝ }
+    ensures { λ r. ⌜ (r ≡ length (printedLine 67 (elim spent [ true ↦ 0 | false ↦ 1 ] ∷ visits ∷ count ∷ best ∷ []))) × (now (buf .exit) ≡ printedLine 67 (elim spent [ true ↦ 0 | false ↦ 1 ] ∷ visits ∷ count ∷ best ∷ []) ++ drop (length (printedLine 67 (elim spent [ true ↦ 0 | false ↦ 1 ] ∷ visits ∷ count ∷ best ∷ []))) (now (buf .entry))) × (r ≤ 86) ⌝ }
+{
+    text::put_line(
+        buf,
+        b'C',
+        &[finished_number(spent), visits, count as u64, best],
+    )
+}
+
+// The B line of a place, with its line and its end; answers its length.
+fn put_member(net: &[u64; 5129], place: usize, buf: &mut [u8]) -> usize
+    requires { ⌜ PlaceThere (now net) place × (44 ≤ length (now buf)) ⌝ }
+    ensures { λ r. ⌜ (r ≡ length (lineB (networkIn (now (net .entry))) place)) × (now (buf .exit) ≡ lineB (networkIn (now (net .entry))) place ++ drop (length (lineB (networkIn (now (net .entry))) place)) (now (buf .entry))) × (r ≤ 44) ⌝ }
+{
+    let line = buffer::place_line(net, place) as u64;
+    let side = buffer::place_side(net, place) as u64;
+    text::put_line(buf, b'B', &[line, side])
+}
+
+// The B lines of the first `count` places of `members`; answers their length.
+fn put_members(net: &[u64; 5129], members: &[u64], count: usize, buf: &mut [u8]) -> usize
+    requires { ⌜ ArePlaces (now net) (now members) count × (length (now members) ≡ 16) × (count ≤ 16) × (704 ≤ length (now buf)) ⌝ }
+    ensures { λ r. ⌜ (r ≡ length (flatMap (λ p. lineB (networkIn (now (net .entry))) p) (take count (now (members .entry))))) × (now (buf .exit) ≡ flatMap (λ p. lineB (networkIn (now (net .entry))) p) (take count (now (members .entry))) ++ drop (length (flatMap (λ p. lineB (networkIn (now (net .entry))) p) (take count (now (members .entry))))) (now (buf .entry))) × (r ≤ 704) ⌝ }
+{
+    let mut at: usize = 0;
+    for i in 0..count {
+        at = at + put_member(net, members[i] as usize, &mut buf[at..]);
+    }
+    at
+}
+
+// Writes the report of an accepted network at the start of a buffer; answers its length.
+pub fn write_report(
+    net: &[u64; 5129],
+    impacts: &[u64; 768],
+    total: u64,
+    members: &[u64; 16],
+    count: usize,
+    best: u64,
+    visits: u64,
+    spent: bool,
+    buf: &mut [u8],
+) -> usize
+    requires { ⌜ Answered (networkIn (now net)) (now impacts) total (now members) count best visits spent × (32768 ≤ length (now buf)) ⌝ }
+    ensures { λ r. ⌜ (r ≡ length (reportText (networkIn (now (net .entry))))) × (now (buf .exit) ≡ reportText (networkIn (now (net .entry))) ++ drop (length (reportText (networkIn (now (net .entry))))) (now (buf .entry))) ⌝ }
+{
+    let mut at = put_totals(net, total, buf);
+    at = at + put_faults(net, impacts, &mut buf[at..]);
+    at = at + put_outcome(spent, visits, count, best, &mut buf[at..]);
+    at + put_members(net, members, count, &mut buf[at..])
+}
