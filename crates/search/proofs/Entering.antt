@@ -14,17 +14,10 @@ use Rattle.theory.specs.Radial.{numbered-in}
 use Rattle.theory.specs.Best.{place-closed}
 use Rattle.buffer.specs.Buffer.{networkIn}
 use Rattle.buffer.specs.Fits.{Fits, EndThere}
+use Rattle.outage.proofs.Calls.{read-fits}
 use Rattle.search.specs.Placing.{stateIndex, put-breaker, set-back, with-one-more}
 use Rattle.search.specs.Walking.{Ready, Entering}
 use Rattle.search.proofs.Carrying.{ready-with}
-
--- a network that is read fits the buffer
-pub read-fits : {N : Network} → Read N → Fits N
-read-fits r = record {
-  stations = omega (arith, r .stationCount, r .head .stations .high);
-  lines = omega (arith, r .lineCount, r .head .lines .high);
-  places = r .placeCount;
-}
 
 module _ {net work near feed order sums S : List ℕ} {q : ℕ} (x : Entering net work near feed order sums S q) where
   abbrev N : Network
@@ -51,7 +44,7 @@ module _ {net work near feed order sums S : List ℕ} {q : ℕ} (x : Entering ne
       let r = ready-with (x .tables) U v .read in
       record {
         line = record {
-          fits = subst Fits (sym e) (read-fits r);
+          fits = subst Fits (sym e) (read-fits _ r);
           low = p .line .low;
           high = rw e (omega (arith, p .line .high, withBreakers-same U N v .lineCount));
         };

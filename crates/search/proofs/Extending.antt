@@ -17,7 +17,7 @@ use Rattle.buffer.specs.Buffer.{networkIn}
 use Rattle.search.specs.Walking.{foundIn, placesFrom, extended, tried, Counted, Trying, Extending, Left}
 use Rattle.search.specs.declared.Progress.{Progress}
 use Rattle.search.specs.declared.Current.{Current}
-use Rattle.search.proofs.Entering.{read-fits}
+use Rattle.outage.proofs.Calls.{read-fits}
 
 -- no more places to add, or none left
 extend-none : (limit : ℕ) (totalOf : List ℕ → ℕ) (isAllowed : List ℕ → Bool) (savingOf : ℕ → ℕ) (S later : List ℕ) (f : Found) → extend limit totalOf isAllowed savingOf 0 S later f ≡ f
@@ -196,7 +196,7 @@ module _ {net work near feed order sums bounds set₀ : List ℕ} {at : Current}
             affordable = x .standing .affordable;
             timely = x .standing .timely;
           };
-          there = record { fits = read-fits (x .tables .accepted .read); low = g .low; high = omega (arith, g .all) };
+          there = record { fits = read-fits _ (x .tables .accepted .read); low = g .low; high = omega (arith, g .all) };
           few = omega (arith, x .few);
         }
 

@@ -16,7 +16,8 @@ use Rattle.buffer.specs.Buffer.{networkIn}
 use Rattle.search.specs.Placing.{stateIndex}
 use Rattle.search.specs.Walking.{Ready, Entering, Alone}
 use Rattle.search.proofs.Carrying.{ready-with}
-use Rattle.search.proofs.Entering.{read-fits, valid-with, working-with}
+use Rattle.outage.proofs.Calls.{read-fits}
+use Rattle.search.proofs.Entering.{valid-with, working-with}
 
 module _ {net work near feed order sums : List ℕ} {q : ℕ} (x : Entering net work near feed order sums [] q) {w : List ℕ} (e : w ≡ set work (stateIndex (placeAt (networkIn net) q)) 1) {alone with' : ℕ}
     (a : alone ≡ total (networkIn net)) (t : with' ≡ total (networkIn w)) where
@@ -73,7 +74,7 @@ module _ {net work₀ near feed order sums : List ℕ} (x : Alone net work₀ ne
       long = ap length (s .workSame) ∙ x .long;
       valid = tt;
       working = ap networkIn (s .workSame) ∙ x .working;
-      there = record { fits = read-fits (x .tables .accepted .read); low = omega arith; high = omega (arith, s .all) };
+      there = record { fits = read-fits _ (x .tables .accepted .read); low = omega arith; high = omega (arith, s .all) };
     }
 
     pub saved-more : (v : ℕ) (work₂ : List ℕ) → i < end → v ≡ saving (networkIn net) (i + 1) → work₂ ≡ work → Saved net work₀ alone (i + 1) end work₂ (set savings i v)
