@@ -176,7 +176,7 @@ pub fn impacts(
 }
 
 // The outage amount of a line: its weight times the impact of a fault on it.
-fn outage_amount(net: &[u64; 5129], impacts: &[u64; 768], line: usize) -> Total
+pub fn outage_amount(net: &[u64; 5129], impacts: &[u64; 768], line: usize) -> Total
     requires { ⌜ LineThere (now net) line × Sized (networkIn (now net)) × (getD (now impacts) (line - 1) 0 ≡ impact (networkIn (now net)) line) ⌝ }
     ensures { λ r. ⌜ r .0 ≡ outageAmount (networkIn (now (net .entry))) line ⌝ }
 {

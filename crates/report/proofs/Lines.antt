@@ -3,12 +3,10 @@ use Prim.Native.Nat.{ℕ, _*_}
 use mathlib.Core.Path.{_≡_, ap, ap₂, _∙_}
 use mathlib.Core.List.{List, [], _∷_, _++_}
 use lib.ListN.{length, drop}
-use Rattle.model.specs.Lists.{numbered}
-use Rattle.model.specs.Network.{Network, noLine}
-use Rattle.model.specs.Outage.{impact, total, figure}
+use Rattle.model.specs.Network.{Network}
+use Rattle.model.specs.Outage.{impact, outageAmount, total, figure}
 use Rattle.model.specs.Sets.{placeAt}
 use Rattle.model.specs.Text.{printedLine, lineA, lineF, lineB}
-use Rattle.outage.proofs.Totals.{amount-is}
 
 -- a text over the start of a list is an equal text over it
 pub same-text : (s t b d : List ℕ) (n : ℕ) → s ≡ t → n ≡ length s → d ≡ s ++ drop (length s) b → (n ≡ length t) × (d ≡ t ++ drop (length t) b)
@@ -23,9 +21,9 @@ module _ (N : Network) where
   unfolding lineA
   lineA-is m t p q = ap₂ (λ (x y : ℕ). printedLine 65 (x ∷ y ∷ [])) q (figure-is m t p q)
 
-  pub lineF-is : (l w c : ℕ) → w ≡ numbered noLine (N .lines) l .weight → c ≡ impact N l → printedLine 70 (l ∷ c ∷ w * c ∷ []) ≡ lineF N l
+  pub lineF-is : (l c a : ℕ) → c ≡ impact N l → a ≡ outageAmount N l → printedLine 70 (l ∷ c ∷ a ∷ []) ≡ lineF N l
   unfolding lineF
-  lineF-is l w c p q = ap₂ (λ (x y : ℕ). printedLine 70 (l ∷ x ∷ y ∷ [])) q (amount-is N l w c p q)
+  lineF-is l c a p q = ap₂ (λ (x y : ℕ). printedLine 70 (l ∷ x ∷ y ∷ [])) p q
 
   pub lineB-is : (p x y : ℕ) → x ≡ placeAt N p .line → y ≡ placeAt N p .side → printedLine 66 (x ∷ y ∷ []) ≡ lineB N p
   unfolding lineB

@@ -18,7 +18,8 @@ fn put_totals(net: &[u64; 5129], total: u64, buf: &mut [u8]) -> usize
     requires { ⌜ Accepted (networkIn (now net)) × (total ≡ totalOf (networkIn (now net))) × (44 ≤ length (now buf)) ⌝ }
     ensures { λ r. ⌜ (r ≡ length (lineA (networkIn (now (net .entry))))) × (now (buf .exit) ≡ lineA (networkIn (now (net .entry))) ++ drop (length (lineA (networkIn (now (net .entry))))) (now (buf .entry))) × (r ≤ 44) ⌝ }
 {
-    text::put_line(buf, b'A', &[total, buffer::minutes(net) * total])
+    let figure = buffer::minutes(net) * total;
+    text::put_line(buf, b'A', &[total, figure])
 }
 
 // The F line of a line, with the impact of a fault and the outage amount; answers its length.
@@ -27,7 +28,7 @@ fn put_fault(net: &[u64; 5129], impacts: &[u64; 768], line: usize, buf: &mut [u8
     ensures { λ r. ⌜ (r ≡ length (lineF (networkIn (now (net .entry))) line)) × (now (buf .exit) ≡ lineF (networkIn (now (net .entry))) line ++ drop (length (lineF (networkIn (now (net .entry))) line)) (now (buf .entry))) × (r ≤ 30) ⌝ }
 {
     let impact = impacts[line - 1];
-    let amount = buffer::weight(net, line) * impact;
+    let amount = outage::outage_amount(net, impacts, line).number();
     text::put_line(buf, b'F', &[line as u64, impact, amount])
 }
 

@@ -1,8 +1,8 @@
 use borrow.Author.Needs.{needs}
-use Prim.Native.Nat.{_+_, _-_, _*_, _≤_}
-use mathlib.Core.Path.{_≡_, sym}
+use Prim.Native.Nat.{_-_, _*_, _≤_}
+use mathlib.Core.Path.{sym}
 use native.Mathlib.Omega.{arith}
-use lib.ListN.{length, take, length-take, length-drop}
+use lib.ListN.{take, length-take, length-drop}
 use lib.Seq.{length-take-le, getD-take}
 use Rattle.model.specs.Text.{lineB}
 use Rattle.buffer.specs.Buffer.{networkIn}

@@ -9,9 +9,9 @@ use Rattle.report.proofs.put_totals.Tie as tie
 minutes-requires : tie.Need-minutes-requires
 minutes-requires c κs = search needs
 
-mul-t8 : tie.Need-mul-t8
-mul-t8 c =
-    let s = c .before .before .before in
+mul-figure : tie.Need-mul-figure
+mul-figure c =
+    let s = c .before .before in
     let N = networkIn (s .args .net .now) in
     let e = figure-is N (c .minutes .result) (s .args .total) (c .minutes .ensures) (s .pre .1) in
     omega (arith, figure-size N (read-sized N (s .pre .0 .read)))
@@ -29,7 +29,7 @@ returns : tie.Need-returns
 returns c =
     let s = c .before .before .before .before .before .before .before in
     let N = networkIn (s .args .net .now) in
-    let m = c .before .before .before .before .minutes in
+    let m = c .before .before .before .before .before .minutes in
     let p = c .before .before .put-line in
     let t = same-text _ _ _ _ _ (lineA-is N (m .result) (s .args .total) (m .ensures) (s .pre .1)) (p .ensures .0) (p .ensures .1) in
     (t .0, t .1, omega arith)
@@ -39,7 +39,7 @@ put-totals-spec =
     tie.close
     (tie.spec
     minutes-requires
-    mul-t8
+    mul-figure
     slice-aggregate-put-line
     put-line-requires
     same-length
