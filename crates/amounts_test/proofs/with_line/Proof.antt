@@ -11,23 +11,18 @@ use Rattle.amounts.proofs.Total.plus.Reads as plus-reads
 use Rattle.amounts.proofs.Weight.new.Reads as Weight-new-reads
 use Rattle.amounts.proofs.times.Reads as times-reads
 
--- src/main.rt:13:33
 new-requires : tie.Need-new-requires
 new-requires c κs = search needs
 
--- src/main.rt:13:54
 new-requires-2 : tie.Need-new-requires-2
 new-requires-2 c κs = search needs
 
--- src/main.rt:13:9
 times-requires : tie.Need-times-requires
 times-requires c κs = omega (arith, ap₂ (λ (w n : ℕ). w * n) (c .before .new .ensures) (c .new2 .ensures))
 
--- src/main.rt:14:5
 plus-requires : tie.Need-plus-requires
 plus-requires c κs = omega (arith, c .times .ensures, ap₂ (λ (w n : ℕ). w * n) (c .before .before .new .ensures) (c .before .new2 .ensures))
 
--- src/main.rt:9:1
 returns : tie.Need-returns
 returns c = omega (arith, c .plus .ensures, c .before .times .ensures, ap₂ (λ (w n : ℕ). w * n) (c .before .before .before .new .ensures) (c .before .before .new2 .ensures))
 

@@ -17,35 +17,27 @@ Inv-loop table places additions sum₀ column₀ column-end sum column =
 abbrev μ-loop : tie.MeasureT-loop
 μ-loop table places additions sum₀ column₀ column-end sum column = column-end - column
 
--- src/lib.rt:25:22
 add-column-end : tie.Need-add-column-end Inv-loop μ-loop
 add-column-end c = omega arith
 
--- src/lib.rt:25:5
 loop-holds : tie.Need-loop-holds Inv-loop μ-loop
 loop-holds c = omega (arith, columns-all (c .args .places) (c .args .additions))
 
--- src/lib.rt:26:21
 binomial-at-requires : tie.Need-binomial-at-requires Inv-loop μ-loop
 binomial-at-requires c κs = search needs
 
--- src/lib.rt:26:15
 add-sum : tie.Need-add-sum Inv-loop μ-loop
 add-sum c = omega arith
 
--- src/lib.rt:25:9
 add-column : tie.Need-add-column Inv-loop μ-loop
 add-column c = omega arith
 
--- src/lib.rt:25:5
 loop-less : tie.Need-loop-less Inv-loop μ-loop
 loop-less c = omega arith
 
--- src/lib.rt:25:5
 loop-again : tie.Need-loop-again Inv-loop μ-loop
 loop-again c = omega (arith, columns-first (c .before .before .before .args .places) (c .before .before .loop .column) (c .before .before .before .args .additions + 1) (omega arith))
 
--- src/lib.rt:20:1
 returns : tie.Need-returns Inv-loop μ-loop
 returns c = omega (arith, columns-none (c .before .before .args .places) (c .before .loop .column) (c .before .before .args .additions + 1) (omega arith))
 

@@ -13,47 +13,36 @@ Inv-loop places₀ places = places ≤ 66
 abbrev μ-loop : tie.MeasureT-loop
 μ-loop places₀ places = 66 - places
 
--- src/main.rt:26:5
 loop-holds : tie.Need-loop-holds Inv-loop μ-loop
 loop-holds c = omega arith
 
--- src/main.rt:27:9
 show-row-requires : tie.Need-show-row-requires Inv-loop μ-loop
 show-row-requires c κs = omega arith
 
--- src/main.rt:26:9
 add-places : tie.Need-add-places Inv-loop μ-loop
 add-places c = omega arith
 
--- src/main.rt:26:5
 loop-less : tie.Need-loop-less Inv-loop μ-loop
 loop-less c = omega arith
 
--- src/main.rt:26:5
 loop-again : tie.Need-loop-again Inv-loop μ-loop
 loop-again c = omega arith
 
--- src/main.rt:29:5
 show-requires : tie.Need-show-requires Inv-loop μ-loop
 show-requires c κs = omega arith
 
--- src/main.rt:30:5
 show-requires-2 : tie.Need-show-requires-2 Inv-loop μ-loop
 show-requires-2 c κs = omega arith
 
--- src/main.rt:31:5
 show-requires-3 : tie.Need-show-requires-3 Inv-loop μ-loop
 show-requires-3 c κs = omega arith
 
--- src/main.rt:32:5
 show-requires-4 : tie.Need-show-requires-4 Inv-loop μ-loop
 show-requires-4 c κs = omega arith
 
--- src/main.rt:33:5
 show-requires-5 : tie.Need-show-requires-5 Inv-loop μ-loop
 show-requires-5 c κs = omega arith
 
--- src/main.rt:25:1
 returns : tie.Need-returns Inv-loop μ-loop
 returns c = omega arith
 

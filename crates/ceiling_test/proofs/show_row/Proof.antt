@@ -12,27 +12,21 @@ Inv-loop places additions₀ additions = additions ≤ 18
 abbrev μ-loop : tie.MeasureT-loop
 μ-loop places additions₀ additions = 18 - additions
 
--- src/main.rt:20:5
 loop-holds : tie.Need-loop-holds Inv-loop μ-loop
 loop-holds c = omega arith
 
--- src/main.rt:21:9
 show-requires : tie.Need-show-requires Inv-loop μ-loop
 show-requires c κs = omega arith
 
--- src/main.rt:20:9
 add-additions : tie.Need-add-additions Inv-loop μ-loop
 add-additions c = omega arith
 
--- src/main.rt:20:5
 loop-less : tie.Need-loop-less Inv-loop μ-loop
 loop-less c = omega arith
 
--- src/main.rt:20:5
 loop-again : tie.Need-loop-again Inv-loop μ-loop
 loop-again c = omega arith
 
--- src/main.rt:19:1
 returns : tie.Need-returns Inv-loop μ-loop
 returns c = omega arith
 

@@ -10,35 +10,27 @@ use Rattle.engine.proofs.load.Reads as load-reads
 use Rattle.engine.proofs.net_space.Reads as net-space-reads
 use Rattle.engine.proofs.nexts_space.Reads as nexts-space-reads
 
--- src/lib.rt:120:19
 net-space-requires : tie.Need-net-space-requires
 net-space-requires c κs = search needs
 
--- src/lib.rt:121:21
 labels-space-requires : tie.Need-labels-space-requires
 labels-space-requires c κs = search needs
 
--- src/lib.rt:122:21
 nexts-space-requires : tie.Need-nexts-space-requires
 nexts-space-requires c κs = search needs
 
--- src/lib.rt:123:20
 lines-space-requires : tie.Need-lines-space-requires
 lines-space-requires c κs = search needs
 
--- src/lib.rt:124:20
 lines-space-requires-2 : tie.Need-lines-space-requires-2
 lines-space-requires-2 c κs = search needs
 
--- src/lib.rt:125:21
 lines-space-requires-3 : tie.Need-lines-space-requires-3
 lines-space-requires-3 c κs = search needs
 
--- src/lib.rt:126:5
 load-requires : tie.Need-load-requires
 load-requires c κs = search needs
 
--- src/lib.rt:117:1
 returns : tie.Need-returns
 returns c =
     let a = c .before .before .before .before .before .before .before .before .before .before .before .before .before .before .args in

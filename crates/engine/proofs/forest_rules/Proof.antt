@@ -16,40 +16,32 @@ use Rattle.radial.proofs.path_returns.Reads as path-returns-reads
 use Rattle.radial.proofs.plain_at_hv.Reads as plain-at-hv-reads
 use Rattle.radial.proofs.unsupplied.Reads as unsupplied-reads
 
--- src/lib.rt:17:20
 stations-requires : tie.Need-stations-requires
 stations-requires c κs = search needs
 
--- src/lib.rt:18:9
 open-line-requires : tie.Need-open-line-requires
 open-line-requires c κs = search needs
 
--- src/lib.rt:22:21
 add-t9 : tie.Need-add-t9
 add-t9 c = search needs
 
--- src/lib.rt:22:21
 add-t10 : tie.Need-add-t10
 add-t10 c =
     let a2 = c .before in
     let d = a2 .before .before .pre in
     omega (arith, a2 .before .stations .ensures, a2 .open-line .ensures, openLine-most (networkIn (a2 .before .before .args .net .now)), d .stationCount, d .head .stations .high, d .lineCount, d .head .lines .high)
 
--- src/lib.rt:20:9
 returns : tie.Need-returns
 returns c =
     let a2 = c .before in let net = a2 .before .before .args .net .now in let n = a2 .before .stations .result in let o = a2 .open-line .result in
     says-4 (networkIn net) n o (a2 .before .stations .ensures) (a2 .open-line .ensures) (c .if1 .taken)
 
--- src/lib.rt:25:9
 plain-at-hv-requires : tie.Need-plain-at-hv-requires
 plain-at-hv-requires c κs = search needs
 
--- src/lib.rt:29:21
 add-t11 : tie.Need-add-t11
 add-t11 c = search needs
 
--- src/lib.rt:29:21
 add-t12 : tie.Need-add-t12
 add-t12 c =
     let a3 = c .before in
@@ -57,58 +49,48 @@ add-t12 c =
     let d = a2 .before .before .pre in
     omega (arith, a2 .before .stations .ensures, a3 .plain-at-hv .ensures, plainLine-most (networkIn (a2 .before .before .args .net .now)), d .stationCount, d .head .stations .high, d .lineCount, d .head .lines .high)
 
--- src/lib.rt:27:9
 returns-2 : tie.Need-returns-2
 returns-2 c =
     let a3 = c .before in let a2 = a3 .before .before in let net = a2 .before .before .args .net .now in let n = a2 .before .stations .result in let o = a2 .open-line .result in
     says-5 (networkIn net) n o (a2 .before .stations .ensures) (a2 .open-line .ensures) (a3 .before .if1 .left) (a3 .plain-at-hv .result) (a3 .plain-at-hv .ensures) (c .if2 .taken)
 
--- src/lib.rt:32:22
 labels-space-requires : tie.Need-labels-space-requires
 labels-space-requires c κs = search needs
 
--- src/lib.rt:33:8
 path-returns-requires : tie.Need-path-returns-requires
 path-returns-requires c κs = search needs
 
--- src/lib.rt:34:9
 returns-3 : tie.Need-returns-3
 returns-3 c =
     let a4 = c .before in let e2 = a4 .before .before .before in let a3 = e2 .before in let a2 = a3 .before .before in let net = a2 .before .before .args .net .now in let n = a2 .before .stations .result in let o = a2 .open-line .result in
     says-6 (networkIn net) n o (a2 .before .stations .ensures) (a2 .open-line .ensures) (a3 .before .if1 .left) (a3 .plain-at-hv .result) (a3 .plain-at-hv .ensures) (e2 .if2 .left) (sym (a4 .path-returns .ensures .0) ∙ c .if3 .taken)
 
--- src/lib.rt:39:8
 hv-joined-requires : tie.Need-hv-joined-requires
 hv-joined-requires c κs =
     let a4 = c .before .before in let e2 = a4 .before .before .before in let a3 = e2 .before in let a2 = a3 .before .before in let net = a2 .before .before .args .net .now in let n = a2 .before .stations .result in let o = a2 .open-line .result in
     (a2 .before .before .pre, a4 .path-returns .ensures .1 (c .before .if3 .left))
 
--- src/lib.rt:40:9
 returns-4 : tie.Need-returns-4
 returns-4 c =
     let a5 = c .before in let e3 = a5 .before .before in let a4 = e3 .before in let e2 = a4 .before .before .before in let a3 = e2 .before in let a2 = a3 .before .before in let net = a2 .before .before .args .net .now in let n = a2 .before .stations .result in let o = a2 .open-line .result in
     says-7 (networkIn net) n o (a2 .before .stations .ensures) (a2 .open-line .ensures) (a3 .before .if1 .left) (a3 .plain-at-hv .result) (a3 .plain-at-hv .ensures) (e2 .if2 .left) (sym (a4 .path-returns .ensures .0) ∙ e3 .if3 .left) (sym (a5 .hv-joined .ensures) ∙ c .if4 .taken)
 
--- src/lib.rt:45:9
 unsupplied-requires : tie.Need-unsupplied-requires
 unsupplied-requires c κs =
     let a5 = c .before .before in let e3 = a5 .before .before in let a4 = e3 .before in let e2 = a4 .before .before .before in let a3 = e2 .before in let a2 = a3 .before .before in let net = a2 .before .before .args .net .now in let n = a2 .before .stations .result in let o = a2 .open-line .result in
     (a2 .before .before .pre, a4 .path-returns .ensures .1 (e3 .if3 .left))
 
--- src/lib.rt:49:21
 add-t19 : tie.Need-add-t19
 add-t19 c =
     let a6 = c .before in let e4 = a6 .before .before in let a5 = e4 .before in let e3 = a5 .before .before in let a4 = e3 .before in let e2 = a4 .before .before .before in let a3 = e2 .before in let a2 = a3 .before .before in let net = a2 .before .before .args .net .now in let n = a2 .before .stations .result in let o = a2 .open-line .result in
     let d = a2 .before .before .pre in
     omega (arith, a6 .unsupplied .ensures, unsuppliedStation-most (networkIn net), d .stationCount, d .head .stations .high)
 
--- src/lib.rt:47:9
 returns-5 : tie.Need-returns-5
 returns-5 c =
     let a6 = c .before in let e4 = a6 .before .before in let a5 = e4 .before in let e3 = a5 .before .before in let a4 = e3 .before in let e2 = a4 .before .before .before in let a3 = e2 .before in let a2 = a3 .before .before in let net = a2 .before .before .args .net .now in let n = a2 .before .stations .result in let o = a2 .open-line .result in
     says-8 (networkIn net) n o (a2 .before .stations .ensures) (a2 .open-line .ensures) (a3 .before .if1 .left) (a3 .plain-at-hv .result) (a3 .plain-at-hv .ensures) (e2 .if2 .left) (sym (a4 .path-returns .ensures .0) ∙ e3 .if3 .left) (sym (a5 .hv-joined .ensures) ∙ e4 .if4 .left) (a6 .unsupplied .result) (a6 .unsupplied .ensures) (c .if5 .taken)
 
--- src/lib.rt:12:1
 returns-6 : tie.Need-returns-6
 returns-6 c =
     let a6 = c .before in let e4 = a6 .before .before in let a5 = e4 .before in let e3 = a5 .before .before in let a4 = e3 .before in let e2 = a4 .before .before .before in let a3 = e2 .before in let a2 = a3 .before .before in let net = a2 .before .before .args .net .now in let n = a2 .before .stations .result in let o = a2 .open-line .result in

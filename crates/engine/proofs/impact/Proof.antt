@@ -16,35 +16,27 @@ use Rattle.engine.proofs.lines_space.Reads as lines-space-reads
 use Rattle.engine.proofs.load_impacts.Reads as load-impacts-reads
 use Rattle.engine.proofs.net_space.Reads as net-space-reads
 
--- src/lib.rt:187:19
 net-space-requires : tie.Need-net-space-requires
 net-space-requires c κs = search needs
 
--- src/lib.rt:188:23
 lines-space-requires : tie.Need-lines-space-requires
 lines-space-requires c κs = search needs
 
--- src/lib.rt:189:11
 load-impacts-requires : tie.Need-load-impacts-requires
 load-impacts-requires c κs = search needs
 
--- src/lib.rt:190:32
 enum-known-number : tie.Need-enum-known-number
 enum-known-number c = search needs
 
--- src/lib.rt:192:13
 enum-told : tie.Need-enum-told
 enum-told c = search needs
 
--- src/lib.rt:192:37
 lines-requires : tie.Need-lines-requires
 lines-requires c κs = search needs
 
--- src/lib.rt:193:49
 sub-t20 : tie.Need-sub-t20
 sub-t20 c = search needs
 
--- src/lib.rt:193:41
 mul-t21 : tie.Need-mul-t21
 mul-t21 c =
     let x = c .before in
@@ -55,7 +47,6 @@ mul-t21 c =
     let read = accepted-holds (a .file .now) (d .load-impacts .last .1 .0) (d .load-impacts .result) (d .load-impacts .ensures .0) e .read in
     omega (arith, read .lineCount, read .head .lines .high, x .lines .ensures, leb-true (a .line) (x .lines .result) (c .if2 .taken))
 
--- src/lib.rt:193:41
 array-read-t24 : tie.Need-array-read-t24
 array-read-t24 c =
     let x = c .before in
@@ -66,14 +57,12 @@ array-read-t24 c =
     let read = accepted-holds (a .file .now) (d .load-impacts .last .1 .0) (d .load-impacts .result) (d .load-impacts .ensures .0) e .read in
     omega (arith, read .lineCount, read .head .lines .high, x .lines .ensures, leb-true (a .line) (x .lines .result) (c .if2 .taken))
 
--- src/lib.rt:184:1
 returns : tie.Need-returns
 returns c =
     let d = c .before .before .before in
     let a = d .before .before .before .before .before .before .args in
     impact-refused (a .file .now) (d .load-impacts .last .1 .0) (d .load-impacts .result) (d .load-impacts .ensures .0) (a .line) (c .before .number .given .1)
 
--- src/lib.rt:184:1
 returns-2 : tie.Need-returns-2
 returns-2 c =
     let x = c .before in
@@ -85,7 +74,6 @@ returns-2 c =
     let low : 1 ≤ a .line = x .before .before .if1 .taken in
     impact-given (a .file .now) (d .load-impacts .last .1 .0) (d .load-impacts .result) (d .load-impacts .ensures .0) e (a .line) _ low high (d .load-impacts .ensures .1 e (a .line) low high)
 
--- src/lib.rt:184:1
 returns-3 : tie.Need-returns-3
 returns-3 c =
     let k = c .before in

@@ -9,32 +9,26 @@ use Rattle.engine.proofs.load.Lts as lts
 use Rattle.engine.proofs.rules.Reads as rules-reads
 use Rattle.reader.proofs.read.Reads as read-reads
 
--- src/lib.rt:110:11
 read-requires : tie.Need-read-requires
 read-requires c κs = search needs
 
--- src/lib.rt:111:31
 enum-known-number : tie.Need-enum-known-number
 enum-known-number c = search needs
 
--- src/lib.rt:112:35
 enum-told : tie.Need-enum-told
 enum-told c = search needs
 
--- src/lib.rt:112:29
 rules-requires : tie.Need-rules-requires
 rules-requires c κs =
     let k = c .before .before .before .before .before .before in
     let d = k .before .before in
     read-holds (d .before .before .before .args .file .now) (d .read .last .1 .0) (d .read .result) (d .read .ensures) (k .enum-told .given .1)
 
--- src/lib.rt:98:1
 returns : tie.Need-returns
 returns c =
     let d = c .before .before .before in
     (read-refused (d .before .before .before .args .file .now) (d .read .last .1 .0) (d .read .result) (d .read .ensures) (c .before .number .given .1), not-accepted)
 
--- src/lib.rt:98:1
 returns-2 : tie.Need-returns-2
 returns-2 c =
     let k = c .before .before .before .before .before .before .before in

@@ -11,39 +11,30 @@ use Rattle.engine.proofs.lines_space.Reads as lines-space-reads
 use Rattle.engine.proofs.load.Reads as load-reads
 use Rattle.engine.proofs.nexts_space.Reads as nexts-space-reads
 
--- src/lib.rt:161:21
 labels-space-requires : tie.Need-labels-space-requires
 labels-space-requires c κs = search needs
 
--- src/lib.rt:162:21
 nexts-space-requires : tie.Need-nexts-space-requires
 nexts-space-requires c κs = search needs
 
--- src/lib.rt:163:20
 lines-space-requires : tie.Need-lines-space-requires
 lines-space-requires c κs = search needs
 
--- src/lib.rt:164:20
 lines-space-requires-2 : tie.Need-lines-space-requires-2
 lines-space-requires-2 c κs = search needs
 
--- src/lib.rt:165:21
 lines-space-requires-3 : tie.Need-lines-space-requires-3
 lines-space-requires-3 c κs = search needs
 
--- src/lib.rt:166:11
 load-requires : tie.Need-load-requires
 load-requires c κs = search needs
 
--- src/lib.rt:175:32
 enum-known-number : tie.Need-enum-known-number
 enum-known-number c = search needs
 
--- src/lib.rt:177:21
 enum-told : tie.Need-enum-told
 enum-told c = search needs
 
--- src/lib.rt:177:13
 impacts-requires : tie.Need-impacts-requires
 impacts-requires c κs =
     let k = c .before .before .before .before .before .before .before in
@@ -51,13 +42,11 @@ impacts-requires c κs =
     let e = k .enum-told .given .1 in
     (accepted-holds (d .before .before .before .before .before .before .before .before .before .before .before .before .before .args .file .now) (d .load .last .1 .0) (d .load .result) (d .load .ensures .0) e, d .load .ensures .1 e)
 
--- src/lib.rt:157:1
 returns : tie.Need-returns
 returns c =
     let d = c .before .before .before in
     (same-answer (d .before .before .before .before .before .before .before .before .before .before .before .before .before .args .file .now) (d .load .last .1 .0) (d .load .result) (d .load .ensures .0) (c .before .number .given .1), not-accepted)
 
--- src/lib.rt:157:1
 returns-2 : tie.Need-returns-2
 returns-2 c =
     let k = c .before .before .before .before .before .before .before .before in

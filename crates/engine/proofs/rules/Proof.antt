@@ -11,15 +11,12 @@ use Rattle.tree.proofs.link_ends.Reads as link-ends-reads
 use Rattle.tree.proofs.outwards.Reads as outwards-reads
 use Rattle.tree.proofs.over_series.Reads as over-series-reads
 
--- src/lib.rt:80:11
 forest-rules-requires : tie.Need-forest-rules-requires
 forest-rules-requires c κs = search needs
 
--- src/lib.rt:81:32
 enum-known-number : tie.Need-enum-known-number
 enum-known-number c = search needs
 
--- src/lib.rt:82:13
 returns : tie.Need-returns
 returns c =
     let f = c .before .before .before in
@@ -28,11 +25,9 @@ returns c =
 enum-told : tie.Need-enum-told
 enum-told c = search needs
 
--- src/lib.rt:86:5
 link-ends-requires : tie.Need-link-ends-requires
 link-ends-requires c κs = search needs
 
--- src/lib.rt:87:5
 outwards-requires : tie.Need-outwards-requires
 outwards-requires c κs =
     let l = c .before .before .before .before .before in
@@ -40,7 +35,6 @@ outwards-requires c κs =
     let f = k .before .before in
     (f .before .pre, forest-held (f .before .args .net .now) (f .forest-rules .result) (f .forest-rules .ensures) (k .enum-told .given .1), l .link-ends .ensures)
 
--- src/lib.rt:88:8
 over-series-requires : tie.Need-over-series-requires
 over-series-requires c κs =
     let o = c .before .before .before in
@@ -50,7 +44,6 @@ over-series-requires c κs =
     let f = k .before .before in
     (f .before .pre, forest-held (f .before .args .net .now) (f .forest-rules .result) (f .forest-rules .ensures) (k .enum-told .given .1), o .outwards .ensures)
 
--- src/lib.rt:89:9
 returns-2 : tie.Need-returns-2
 returns-2 c =
     let v = c .before in
@@ -61,7 +54,6 @@ returns-2 c =
     let net = f .before .args .net .now in
     series-refused net (f .forest-rules .result) (f .forest-rules .ensures) (k .enum-told .given .1) (sym (v .over-series .ensures) ∙ c .if1 .taken)
 
--- src/lib.rt:68:1
 returns-3 : tie.Need-returns-3
 returns-3 c =
     let v = c .before in

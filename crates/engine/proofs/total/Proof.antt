@@ -18,27 +18,21 @@ use Rattle.engine.proofs.load_impacts.Reads as load-impacts-reads
 use Rattle.engine.proofs.net_space.Reads as net-space-reads
 use Rattle.outage.proofs.total_of.Reads as total-of-reads
 
--- src/lib.rt:208:19
 net-space-requires : tie.Need-net-space-requires
 net-space-requires c κs = search needs
 
--- src/lib.rt:209:23
 lines-space-requires : tie.Need-lines-space-requires
 lines-space-requires c κs = search needs
 
--- src/lib.rt:210:11
 load-impacts-requires : tie.Need-load-impacts-requires
 load-impacts-requires c κs = search needs
 
--- src/lib.rt:211:32
 enum-known-number : tie.Need-enum-known-number
 enum-known-number c = search needs
 
--- src/lib.rt:213:42
 enum-told : tie.Need-enum-told
 enum-told c = search needs
 
--- src/lib.rt:213:25
 total-of-requires : tie.Need-total-of-requires
 total-of-requires c κs =
     let k = c .before .before in
@@ -46,15 +40,12 @@ total-of-requires c κs =
     let e = k .enum-told .given .1 in
     (accepted-holds (d .before .before .before .before .before .before .args .file .now) (d .load-impacts .last .1 .0) (d .load-impacts .result) (d .load-impacts .ensures .0) e .read, d .load-impacts .ensures .1 e)
 
--- src/lib.rt:213:17
 number-requires : tie.Need-number-requires
 number-requires c κs = search needs
 
--- src/lib.rt:216:25
 minutes-requires : tie.Need-minutes-requires
 minutes-requires c κs = search needs
 
--- src/lib.rt:216:25
 mul-figure : tie.Need-mul-figure
 unfolding figure
 mul-figure c =
@@ -69,13 +60,11 @@ mul-figure c =
     let small : c .minutes .result * n .number2 .result < 2 ^ 64 = subst (λ x. x < 2 ^ 64) (λ i. sym (c .minutes .ensures) i * sym (n .number2 .ensures ∙ t .total-of .ensures) i) (omega (arith, figure-size N (read-sized N read))) in
     omega (arith, small)
 
--- src/lib.rt:205:1
 returns : tie.Need-returns
 returns c =
     let d = c .before .before .before in
     total-refused (d .before .before .before .before .before .before .args .file .now) (d .load-impacts .last .1 .0) (d .load-impacts .result) (d .load-impacts .ensures .0) (c .before .number .given .1)
 
--- src/lib.rt:205:1
 returns-2 : tie.Need-returns-2
 returns-2 c =
     let n = c .before .before in

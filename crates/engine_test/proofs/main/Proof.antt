@@ -15,63 +15,48 @@ Inv-loop input n at₀ at = n ≤ 200000
 abbrev μ-loop : tie.MeasureT-loop
 μ-loop input n at₀ at = n - at
 
--- src/main.rt:96:21
 space-requires : tie.Need-space-requires Inv-loop μ-loop
 space-requires c κs = search needs
 
--- src/main.rt:97:30
 slice-aggregate-read-full : tie.Need-slice-aggregate-read-full Inv-loop μ-loop
 slice-aggregate-read-full c = search needs
 
--- src/main.rt:97:9
 read-full-requires : tie.Need-read-full-requires Inv-loop μ-loop
 read-full-requires c κs = search needs
 
--- src/main.rt:99:5
 loop-holds : tie.Need-loop-holds Inv-loop μ-loop
 loop-holds c = search needs
 
--- src/main.rt:100:28
 array-share-prefix-input : tie.Need-array-share-prefix-input Inv-loop μ-loop
 array-share-prefix-input c = search needs
 
--- src/main.rt:100:28
 slice-aggregate-file-end : tie.Need-slice-aggregate-file-end Inv-loop μ-loop
 slice-aggregate-file-end c = search needs
 
--- src/main.rt:100:13
 file-end-requires : tie.Need-file-end-requires Inv-loop μ-loop
 file-end-requires c κs = search needs
 
--- src/main.rt:101:14
 sub-show : tie.Need-sub-show Inv-loop μ-loop
 sub-show c = search needs
 
--- src/main.rt:101:14
 part-show-start : tie.Need-part-show-start Inv-loop μ-loop
 part-show-start c = search needs
 
--- src/main.rt:101:14
 part-show-end : tie.Need-part-show-end Inv-loop μ-loop
 part-show-end c = search needs
 
--- src/main.rt:101:9
 show-requires : tie.Need-show-requires Inv-loop μ-loop
 show-requires c κs = search needs
 
--- src/main.rt:102:14
 add-at : tie.Need-add-at Inv-loop μ-loop
 add-at c = search needs
 
--- src/main.rt:99:5
 loop-less : tie.Need-loop-less Inv-loop μ-loop
 loop-less c = search needs
 
--- src/main.rt:99:5
 loop-again : tie.Need-loop-again Inv-loop μ-loop
 loop-again c = search needs
 
--- src/main.rt:95:1
 returns : tie.Need-returns Inv-loop μ-loop
 returns c = search needs
 

@@ -12,31 +12,24 @@ Inv-loop file line₀ line = line ≤ 770
 abbrev μ-loop : tie.MeasureT-loop
 μ-loop file line₀ line = 770 - line
 
--- src/main.rt:69:5
 loop-holds : tie.Need-loop-holds Inv-loop μ-loop
 loop-holds c = search needs
 
--- src/main.rt:70:12
 show-impact-requires : tie.Need-show-impact-requires Inv-loop μ-loop
 show-impact-requires c κs = search needs
 
--- src/main.rt:71:13
 returns : tie.Need-returns Inv-loop μ-loop
 returns c = search needs
 
--- src/main.rt:69:9
 add-line : tie.Need-add-line Inv-loop μ-loop
 add-line c = search needs
 
--- src/main.rt:69:5
 loop-less : tie.Need-loop-less Inv-loop μ-loop
 loop-less c = search needs
 
--- src/main.rt:69:5
 loop-again : tie.Need-loop-again Inv-loop μ-loop
 loop-again c = search needs
 
--- src/main.rt:68:1
 returns-2 : tie.Need-returns-2 Inv-loop μ-loop
 returns-2 c = search needs
 

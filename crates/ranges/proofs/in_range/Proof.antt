@@ -12,27 +12,21 @@ use Rattle.ranges.proofs.in_range.Reads as reads
 use Rattle.ranges.proofs.in_range.Lts as lts
 use Rattle.ranges.proofs.largest_of.Reads as largest-of-reads
 
--- src/lib.rt:141:17
 mul-range : tie.Need-mul-range
 mul-range c = search needs
 
--- src/lib.rt:141:17
 mul-range-2 : tie.Need-mul-range-2
 mul-range-2 c = search needs
 
--- src/lib.rt:141:17
 index-1-range : tie.Need-index-1-range
 index-1-range c = search needs
 
--- src/lib.rt:141:17
 index-2-range : tie.Need-index-2-range
 index-2-range c = search needs
 
--- src/lib.rt:143:9
 largest-of-requires : tie.Need-largest-of-requires
 largest-of-requires c κs = search needs
 
--- src/lib.rt:130:1
 returns : tie.Need-returns
 unfolding entry
 returns c =
@@ -40,7 +34,6 @@ returns c =
     from-least (a .stations) (a .lines) (a .first) (a .value) (entry (a .kind) (a .field)) _ (c .before .before .largest-of .ensures) (omega (arith, c .if1 .taken))
     ∙ ap (λ (r : Range). inRange (a .stations) (a .lines) (a .first) r (a .value)) (entry-is (a .kind) (a .field))
 
--- src/lib.rt:130:1
 returns-2 : tie.Need-returns-2
 unfolding entry
 returns-2 c =

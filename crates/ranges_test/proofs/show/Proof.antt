@@ -13,59 +13,45 @@ Inv-loop kind field first values i₀ t6 t7 t8 i = i ≤ 32
 abbrev μ-loop : tie.MeasureT-loop
 μ-loop kind field first values i₀ t6 t7 t8 i = 32 - i
 
--- src/main.rt:43:5
 loop-holds : tie.Need-loop-holds Inv-loop μ-loop
 loop-holds c = omega arith
 
--- src/main.rt:44:42
 mul-in-range : tie.Need-mul-in-range Inv-loop μ-loop
 mul-in-range c = omega arith
 
--- src/main.rt:44:42
 array-read-in-range : tie.Need-array-read-in-range Inv-loop μ-loop
 array-read-in-range c = omega arith
 
--- src/main.rt:44:12
 in-range-requires : tie.Need-in-range-requires Inv-loop μ-loop
 in-range-requires c κs = omega arith
 
--- src/main.rt:45:30
 slice-aggregate-write-all : tie.Need-slice-aggregate-write-all Inv-loop μ-loop
 slice-aggregate-write-all c = omega arith
 
--- src/main.rt:45:13
 write-all-requires : tie.Need-write-all-requires Inv-loop μ-loop
 write-all-requires c κs = omega arith
 
--- src/main.rt:47:30
 slice-aggregate-write-all-2 : tie.Need-slice-aggregate-write-all-2 Inv-loop μ-loop
 slice-aggregate-write-all-2 c = omega arith
 
--- src/main.rt:47:13
 write-all-requires-2 : tie.Need-write-all-requires-2 Inv-loop μ-loop
 write-all-requires-2 c κs = omega arith
 
--- src/main.rt:43:9
 add-i : tie.Need-add-i Inv-loop μ-loop
 add-i c = omega arith
 
--- src/main.rt:43:5
 loop-less : tie.Need-loop-less Inv-loop μ-loop
 loop-less c = omega arith
 
--- src/main.rt:43:5
 loop-again : tie.Need-loop-again Inv-loop μ-loop
 loop-again c = omega arith
 
--- src/main.rt:50:22
 slice-aggregate-write-all-3 : tie.Need-slice-aggregate-write-all-3 Inv-loop μ-loop
 slice-aggregate-write-all-3 c = omega arith
 
--- src/main.rt:50:5
 write-all-requires-3 : tie.Need-write-all-requires-3 Inv-loop μ-loop
 write-all-requires-3 c κs = omega arith
 
--- src/main.rt:39:1
 returns : tie.Need-returns Inv-loop μ-loop
 returns c = omega arith
 

@@ -12,27 +12,21 @@ Inv-loop kind first field₀ field = field ≤ 8
 abbrev μ-loop : tie.MeasureT-loop
 μ-loop kind first field₀ field = 8 - field
 
--- src/main.rt:56:5
 loop-holds : tie.Need-loop-holds Inv-loop μ-loop
 loop-holds c = omega arith
 
--- src/main.rt:57:9
 show-requires : tie.Need-show-requires Inv-loop μ-loop
 show-requires c κs = omega arith
 
--- src/main.rt:56:9
 add-field : tie.Need-add-field Inv-loop μ-loop
 add-field c = omega arith
 
--- src/main.rt:56:5
 loop-less : tie.Need-loop-less Inv-loop μ-loop
 loop-less c = omega arith
 
--- src/main.rt:56:5
 loop-again : tie.Need-loop-again Inv-loop μ-loop
 loop-again c = omega arith
 
--- src/main.rt:53:1
 returns : tie.Need-returns Inv-loop μ-loop
 returns c = omega arith
 

@@ -12,27 +12,21 @@ Inv-loop first kind₀ kind = kind ≤ 4
 abbrev μ-loop : tie.MeasureT-loop
 μ-loop first kind₀ kind = 4 - kind
 
--- src/main.rt:62:5
 loop-holds : tie.Need-loop-holds Inv-loop μ-loop
 loop-holds c = omega arith
 
--- src/main.rt:63:9
 show-row-requires : tie.Need-show-row-requires Inv-loop μ-loop
 show-row-requires c κs = omega arith
 
--- src/main.rt:62:9
 add-kind : tie.Need-add-kind Inv-loop μ-loop
 add-kind c = omega arith
 
--- src/main.rt:62:5
 loop-less : tie.Need-loop-less Inv-loop μ-loop
 loop-less c = omega arith
 
--- src/main.rt:62:5
 loop-again : tie.Need-loop-again Inv-loop μ-loop
 loop-again c = omega arith
 
--- src/main.rt:61:1
 returns : tie.Need-returns Inv-loop μ-loop
 returns c = omega arith
 

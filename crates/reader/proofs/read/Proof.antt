@@ -8,16 +8,13 @@ use Rattle.reader.proofs.read.Reads as reads
 use Rattle.reader.proofs.read.Lts as lts
 use Rattle.reader.proofs.read_file.Reads as read-file-reads
 
--- src/lib.rt:76:9
 returns : tie.Need-returns
 unfolding readSays
 returns c = too-long (c .before .before .args .file .now) (c .if1 .taken)
 
--- src/lib.rt:81:5
 read-file-requires : tie.Need-read-file-requires
 read-file-requires c κs = search needs
 
--- src/lib.rt:72:1
 returns-2 : tie.Need-returns-2
 returns-2 c = c .read-file .ensures ∙ not-too-long (c .before .before .before .before .args .file .now) (c .before .before .if1 .left)
 

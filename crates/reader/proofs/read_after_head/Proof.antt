@@ -19,41 +19,32 @@ use Rattle.reader.proofs.read_after_head.Lts as lts
 use Rattle.reader.proofs.places.read_places.Reads as read-places-reads
 use Rattle.reader.proofs.records.read_records.Reads as read-records-reads
 
--- src/lib.rt:39:20
 slice-read-stations : tie.Need-slice-read-stations
 slice-read-stations c = search needs
 
--- src/lib.rt:40:17
 slice-read-lines : tie.Need-slice-read-lines
 slice-read-lines c = search needs
 
--- src/lib.rt:42:81
 sub-read-records : tie.Need-sub-read-records
 sub-read-records c = search needs
 
--- src/lib.rt:42:81
 part-read-records-start : tie.Need-part-read-records-start
 part-read-records-start c = search needs
 
--- src/lib.rt:42:81
 part-read-records-end : tie.Need-part-read-records-end
 part-read-records-end c = search needs
 
--- src/lib.rt:42:9
 read-records-requires : tie.Need-read-records-requires
 unfolding rows rowS
 read-records-requires c κs =
     (omega arith, omega arith, omega arith, omega (arith, part-long 9 1024 (c .before .before .before .before .before .args .net .now) (omega arith)))
 
--- src/lib.rt:44:25
 enum-known-step : tie.Need-enum-known-step
 enum-known-step c = search needs
 
--- src/lib.rt:44:45
 same-length : tie.Need-same-length
 same-length c = search needs
 
--- src/lib.rt:44:45
 returns : tie.Need-returns
 unfolding readSays headOf rows rowS
 returns c =
@@ -62,27 +53,21 @@ returns c =
     stations-stopped (headOf (a .net .now)) (recordsOf (drop (a .from) (a .file .now))) _ _
     (says-stopped (a .file .now) (r .result) _ _ (r .ensures .0) _ _ (c .before .step .given .1))
 
--- src/lib.rt:45:20
 enum-known-step-2 : tie.Need-enum-known-step-2
 enum-known-step-2 c = search needs
 
--- src/lib.rt:49:42
 add-read-records : tie.Need-add-read-records
 add-read-records c = search needs
 
--- src/lib.rt:49:89
 sub-read-records-2 : tie.Need-sub-read-records-2
 sub-read-records-2 c = search needs
 
--- src/lib.rt:49:89
 part-read-records-start-2 : tie.Need-part-read-records-start-2
 part-read-records-start-2 c = search needs
 
--- src/lib.rt:49:89
 part-read-records-end-2 : tie.Need-part-read-records-end-2
 part-read-records-end-2 c = search needs
 
--- src/lib.rt:49:9
 read-records-requires-2 : tie.Need-read-records-requires-2
 unfolding rows rowL
 read-records-requires-2 c κs =
@@ -94,15 +79,12 @@ read-records-requires-2 c κs =
     let full : length (putMid 9 1024 (a .net .now) d) ≡ 5129 = length₁ (a .net .now) d (omega arith) long in
     (next-within (a .file .now) (r .result) (r .ensures .1) (s .given .0 .0) (s .given .1), omega arith, omega arith, omega (arith, part-long 1033 3840 (putMid 9 1024 (a .net .now) d) (omega arith)))
 
--- src/lib.rt:51:25
 enum-known-step-3 : tie.Need-enum-known-step-3
 enum-known-step-3 c = search needs
 
--- src/lib.rt:51:45
 same-length-2 : tie.Need-same-length-2
 same-length-2 c = search needs
 
--- src/lib.rt:51:45
 returns-2 : tie.Need-returns-2
 unfolding readSays headOf rows rowS rowL
 returns-2 c =
@@ -114,11 +96,9 @@ returns-2 c =
     (says-next (a .file .now) (r₁ .result) _ _ (r₁ .ensures .0) (s₁ .given .0 .0) (s₁ .given .1)) _ _
     (says-stopped (a .file .now) (r₂ .result) _ _ (r₂ .ensures .0) _ _ (c .before .step3 .given .1))
 
--- src/lib.rt:52:20
 enum-known-step-4 : tie.Need-enum-known-step-4
 enum-known-step-4 c = search needs
 
--- src/lib.rt:56:5
 read-places-requires : tie.Need-read-places-requires
 read-places-requires c κs =
     let a = c .before .before .before .before .before .before .before .before .before .before .before .before .before .before .before .before .before .before .before .args in
@@ -136,11 +116,9 @@ read-places-requires c κs =
       omega (arith, c .before .before .before .before .before .before .before .before .before .before .before .before .before .before .before .before .before .before .before .pre, values-same (a .net .now) d₁ full long₁ d₂ long₂ 1 (omega arith)),
     )
 
--- src/lib.rt:35:1
 same-length-3 : tie.Need-same-length-3
 same-length-3 c = search needs
 
--- src/lib.rt:35:1
 returns-3 : tie.Need-returns-3
 unfolding headOf rows rowS rowL
 returns-3 c =

@@ -15,32 +15,25 @@ use Rattle.reader.proofs.read_file.Lts as lts
 use Rattle.reader.proofs.read_after_head.Reads as read-after-head-reads
 use Rattle.reader.proofs.records.read_record.Reads as read-record-reads
 
--- src/lib.rt:64:49
 sub-read-record : tie.Need-sub-read-record
 sub-read-record c = search needs
 
--- src/lib.rt:64:49
 part-read-record-start : tie.Need-part-read-record-start
 part-read-record-start c = search needs
 
--- src/lib.rt:64:49
 part-read-record-end : tie.Need-part-read-record-end
 part-read-record-end c = search needs
 
--- src/lib.rt:64:9
 read-record-requires : tie.Need-read-record-requires
 unfolding rows rowN
 read-record-requires c κs = (omega arith, omega arith, part-long 0 8 (c .before .before .before .args .net .now) (omega arith))
 
--- src/lib.rt:66:25
 enum-known-step : tie.Need-enum-known-step
 enum-known-step c = search needs
 
--- src/lib.rt:67:20
 enum-known-step-2 : tie.Need-enum-known-step-2
 enum-known-step-2 c = search needs
 
--- src/lib.rt:67:29
 read-after-head-requires : tie.Need-read-after-head-requires
 read-after-head-requires c κs =
     let a = c .before .before .before .before .before .before .before .before .before .before .args in
@@ -56,11 +49,9 @@ read-after-head-requires c κs =
       fits .1,
     )
 
--- src/lib.rt:60:1
 same-length : tie.Need-same-length
 same-length c = search needs
 
--- src/lib.rt:60:1
 returns : tie.Need-returns
 unfolding readSays
 returns c =
@@ -68,11 +59,9 @@ returns c =
     let r = c .before .before .before .before .before .read-record in
     head-stopped (recordsOf (a .file .now)) _ _ (says-stopped (a .file .now) (r .result) (r .last .1 .1 .1 .1 .1 .1 .0) _ (r .ensures .0) _ _ (c .before .step .given .1))
 
--- src/lib.rt:60:1
 same-length-2 : tie.Need-same-length-2
 same-length-2 c = search needs
 
--- src/lib.rt:60:1
 returns-2 : tie.Need-returns-2
 returns-2 c =
     let a = c .before .before .before .before .before .before .before .before .before .before .before .before .before .args in

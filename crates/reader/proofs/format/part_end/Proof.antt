@@ -16,35 +16,28 @@ Inv-loop bytes from separator i₀ i = (from ≤ i) × (i ≤ length bytes) × (
 abbrev μ-loop : tie.MeasureT-loop
 μ-loop bytes from separator i₀ i = length bytes - i
 
--- src/format.rt:16:5
 loop-holds : tie.Need-loop-holds Inv-loop μ-loop
 loop-holds c = search needs
 
--- src/format.rt:17:12
 shared-slice-read-if1 : tie.Need-shared-slice-read-if1 Inv-loop μ-loop
 shared-slice-read-if1 c = search needs
 
--- src/format.rt:18:13
 returns : tie.Need-returns Inv-loop μ-loop
 returns c =
     let a = c .before .before .before .before .args in
     omega (arith, at-separator (a .separator) (a .bytes .now) (c .before .before .before .loop .i) (omega arith) (c .if1 .taken))
 
--- src/format.rt:20:9
 add-i : tie.Need-add-i Inv-loop μ-loop
 add-i c = search needs
 
--- src/format.rt:16:5
 loop-less : tie.Need-loop-less Inv-loop μ-loop
 loop-less c = search needs
 
--- src/format.rt:16:5
 loop-again : tie.Need-loop-again Inv-loop μ-loop
 loop-again c =
     let a = c .before .before .before .before .args in
     omega (arith, at-other (a .separator) (a .bytes .now) (c .before .before .before .loop .i) (omega arith) (c .if1 .left))
 
--- src/format.rt:11:1
 returns-2 : tie.Need-returns-2 Inv-loop μ-loop
 returns-2 c =
     let a = c .before .before .args in

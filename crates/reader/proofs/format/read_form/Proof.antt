@@ -21,29 +21,24 @@ Inv-loop bytes letter out₀ at₀ k₀ k-end out at k =
 abbrev μ-loop : tie.MeasureT-loop
 μ-loop bytes letter out₀ at₀ k₀ k-end out at k = k-end - k
 
--- src/format.rt:59:9
 part-end-requires : tie.Need-part-end-requires Inv-loop μ-loop
 part-end-requires c κs = search needs
 
--- src/format.rt:61:9
 returns : tie.Need-returns Inv-loop μ-loop
 unfolding formSays
 returns c =
     let a = c .before .before .before .before .args in
     kind-wrong (a .letter) (length (a .out .now)) (a .bytes .now) (omega arith) (λ e. c .if1 .taken (omega arith))
 
--- src/format.rt:63:8
 shared-slice-read-if2 : tie.Need-shared-slice-read-if2 Inv-loop μ-loop
 shared-slice-read-if2 c = search needs
 
--- src/format.rt:64:9
 returns-2 : tie.Need-returns-2 Inv-loop μ-loop
 unfolding formSays
 returns-2 c =
     let a = c .before .before .before .before .before .before .args in
     letter-wrong (a .letter) (length (a .out .now)) (a .bytes .now) (omega arith) (omega arith) (c .if2 .taken)
 
--- src/format.rt:66:5
 loop-holds : tie.Need-loop-holds Inv-loop μ-loop
 loop-holds c =
     let a = c .before .before .before .before .before .before .args in (
@@ -55,50 +50,39 @@ loop-holds c =
           ∙ letter-right (a .letter) (length (a .out .now)) (a .bytes .now) (a .out .now) (omega arith) (omega arith) (c .if2 .left),
     )
 
--- src/format.rt:68:13
 same-length : tie.Need-same-length Inv-loop μ-loop
 same-length c = search needs
 
--- src/format.rt:68:13
 returns-3 : tie.Need-returns-3 Inv-loop μ-loop
 unfolding formSays
 returns-3 c =
     let l = c .before .before .loop in
     sym (no-field (c .before .before .before .before .before .before .before .before .before .args .bytes .now) (l .out) (l .k) _ (l .at) (omega arith) (omega arith)) ∙ l .inv .4
 
--- src/format.rt:70:20
 add-from : tie.Need-add-from Inv-loop μ-loop
 add-from c = search needs
 
--- src/format.rt:71:9
 part-end-requires-2 : tie.Need-part-end-requires-2 Inv-loop μ-loop
 part-end-requires-2 c κs = search needs
 
--- src/format.rt:72:34
 sub-read-number : tie.Need-sub-read-number Inv-loop μ-loop
 sub-read-number c = search needs
 
--- src/format.rt:72:34
 part-read-number-start : tie.Need-part-read-number-start Inv-loop μ-loop
 part-read-number-start c = search needs
 
--- src/format.rt:72:34
 part-read-number-end : tie.Need-part-read-number-end Inv-loop μ-loop
 part-read-number-end c = search needs
 
--- src/format.rt:72:13
 read-number-requires : tie.Need-read-number-requires Inv-loop μ-loop
 read-number-requires c κs = search needs
 
--- src/format.rt:74:28
 enum-told : tie.Need-enum-told Inv-loop μ-loop
 enum-told c = search needs
 
--- src/format.rt:74:28
 same-length-2 : tie.Need-same-length-2 Inv-loop μ-loop
 same-length-2 c = search needs
 
--- src/format.rt:74:28
 returns-4 : tie.Need-returns-4 Inv-loop μ-loop
 unfolding formSays numberSays
 returns-4 c =
@@ -107,27 +91,21 @@ returns-4 c =
     (sym (c .before .before .read-number .ensures) ∙ ap numberSays (c .enum-told .given .1)))
     ∙ l .inv .4
 
--- src/format.rt:75:27
 enum-known-number : tie.Need-enum-known-number Inv-loop μ-loop
 enum-known-number c = search needs
 
--- src/format.rt:76:17
 mul-out : tie.Need-mul-out Inv-loop μ-loop
 mul-out c = search needs
 
--- src/format.rt:76:17
 slice-write-out : tie.Need-slice-write-out Inv-loop μ-loop
 slice-write-out c = search needs
 
--- src/format.rt:66:9
 add-k : tie.Need-add-k Inv-loop μ-loop
 add-k c = search needs
 
--- src/format.rt:66:5
 loop-less : tie.Need-loop-less Inv-loop μ-loop
 loop-less c = search needs
 
--- src/format.rt:66:5
 loop-again : tie.Need-loop-again Inv-loop μ-loop
 unfolding numberSays
 loop-again c =
@@ -141,11 +119,9 @@ loop-again c =
           ∙ l .inv .4,
     )
 
--- src/format.rt:56:1
 same-length-3 : tie.Need-same-length-3 Inv-loop μ-loop
 same-length-3 c = search needs
 
--- src/format.rt:56:1
 returns-5 : tie.Need-returns-5 Inv-loop μ-loop
 returns-5 c =
     let l = c .before .loop in

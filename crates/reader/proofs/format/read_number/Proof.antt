@@ -18,26 +18,21 @@ Inv-loop field n v₀ i₀ v i = (n ≡ length field) × (n ≤ 10) × (i ≤ n)
 abbrev μ-loop : tie.MeasureT-loop
 μ-loop field n v₀ i₀ v i = n - i
 
--- src/format.rt:31:9
 returns : tie.Need-returns Inv-loop μ-loop
 unfolding numberSays
 returns c = empty (c .before .args .field .now) (c .if1 .taken)
 
--- src/format.rt:34:9
 returns-2 : tie.Need-returns-2 Inv-loop μ-loop
 unfolding numberSays
 returns-2 c = long (c .before .before .args .field .now) (c .if2 .taken)
 
--- src/format.rt:37:12
 shared-slice-read-if4 : tie.Need-shared-slice-read-if4 Inv-loop μ-loop
 shared-slice-read-if4 c = search needs
 
--- src/format.rt:38:13
 returns-3 : tie.Need-returns-3 Inv-loop μ-loop
 unfolding numberSays
 returns-3 c = zero-first (c .before .before .before .before .before .args .field .now) (omega arith) (c .if4 .taken)
 
--- src/format.rt:42:5
 loop-holds : tie.Need-loop-holds Inv-loop μ-loop
 loop-holds c = (
   refl,
@@ -47,49 +42,39 @@ loop-holds c = (
   starts (c .before .before .before .args .field .now) (c .before .before .if1 .left) (omega arith) (⊎-elim (λ w. inl (w .2 .left)) (λ w. inr (w .left)) (c .if3 .came)),
 )
 
--- src/format.rt:43:17
 shared-slice-read-d : tie.Need-shared-slice-read-d Inv-loop μ-loop
 shared-slice-read-d c = search needs
 
--- src/format.rt:45:13
 returns-4 : tie.Need-returns-4 Inv-loop μ-loop
 unfolding numberSays
 returns-4 c =
     let l = c .before .before .before .loop in
     sym (low (c .before .before .before .before .before .before .before .args .field .now) (l .v) (l .i) (omega arith) (c .if5 .taken)) ∙ l .inv .4
 
--- src/format.rt:48:13
 returns-5 : tie.Need-returns-5 Inv-loop μ-loop
 unfolding numberSays
 returns-5 c =
     let l = c .before .before .before .before .loop in
     sym (high (c .before .before .before .before .before .before .before .before .args .field .now) (l .v) (l .i) (omega arith) (c .if6 .taken)) ∙ l .inv .4
 
--- src/format.rt:50:13
 mul-v : tie.Need-mul-v Inv-loop μ-loop
 mul-v c = omega (arith, below-ten-digits (c .before .before .before .before .loop .i) (omega arith))
 
--- src/format.rt:50:23
 cast-v : tie.Need-cast-v Inv-loop μ-loop
 cast-v c = omega arith
 
--- src/format.rt:50:23
 sub-v : tie.Need-sub-v Inv-loop μ-loop
 sub-v c = omega arith
 
--- src/format.rt:50:13
 add-v : tie.Need-add-v Inv-loop μ-loop
 add-v c = omega (arith, below-ten-digits (c .before .before .before .before .loop .i) (omega arith))
 
--- src/format.rt:42:9
 add-i : tie.Need-add-i Inv-loop μ-loop
 add-i c = search needs
 
--- src/format.rt:42:5
 loop-less : tie.Need-loop-less Inv-loop μ-loop
 loop-less c = search needs
 
--- src/format.rt:42:5
 loop-again : tie.Need-loop-again Inv-loop μ-loop
 loop-again c =
     let l = c .before .before .before .before .loop in (
@@ -100,7 +85,6 @@ loop-again c =
       sym (more (c .before .before .before .before .before .before .before .before .args .field .now) (l .v) (l .i) (omega arith) (c .before .if5 .left) (c .if6 .left)) ∙ l .inv .4,
     )
 
--- src/format.rt:26:1
 returns-6 : tie.Need-returns-6 Inv-loop μ-loop
 unfolding numberSays
 returns-6 c =

@@ -6,45 +6,36 @@ use Rattle.reader.proofs.places.comes_after.Tie as tie
 use Rattle.reader.proofs.places.comes_after.Reads as reads
 use Rattle.reader.proofs.places.comes_after.Lts as lts
 
--- src/places.rt:17:8
 element-copy-out-if1 : tie.Need-element-copy-out-if1
 element-copy-out-if1 c = search needs
 
--- src/places.rt:17:20
 element-copy-out-if1-2 : tie.Need-element-copy-out-if1-2
 element-copy-out-if1-2 c = search needs
 
--- src/places.rt:18:9
 returns : tie.Need-returns
 unfolding comesAfter placeOf
 returns c =
     let a = c .before .before .before .args in
     line-before (value (a .before .now) 0) (value (a .place .now) 0) (value (a .before .now) 1) (value (a .place .now) 1) (c .if1 .taken)
 
--- src/places.rt:20:5
 element-copy-out-if2 : tie.Need-element-copy-out-if2
 element-copy-out-if2 c = search needs
 
--- src/places.rt:20:18
 element-copy-out-if2-2 : tie.Need-element-copy-out-if2-2
 element-copy-out-if2-2 c = search needs
 
--- src/places.rt:20:30
 element-copy-out-result : tie.Need-element-copy-out-result
 element-copy-out-result c = search needs
 
--- src/places.rt:20:42
 element-copy-out-result-2 : tie.Need-element-copy-out-result-2
 element-copy-out-result-2 c = search needs
 
--- src/places.rt:14:1
 returns-2 : tie.Need-returns-2
 unfolding comesAfter placeOf
 returns-2 c =
     let a = c .before .before .before .before .before .before .before .before .args in
     same-line (value (a .before .now) 0) (value (a .place .now) 0) (value (a .before .now) 1) (value (a .place .now) 1) (c .before .before .before .before .before .if1 .left) (c .before .before .if2 .taken)
 
--- src/places.rt:14:1
 returns-3 : tie.Need-returns-3
 unfolding comesAfter placeOf
 returns-3 c =

@@ -6,43 +6,33 @@ use Rattle.reader.proofs.places.put_place.Tie as tie
 use Rattle.reader.proofs.places.put_place.Reads as reads
 use Rattle.reader.proofs.places.put_place.Lts as lts
 
--- src/places.rt:44:14
 shared-slice-read-out : tie.Need-shared-slice-read-out
 shared-slice-read-out c = search needs
 
--- src/places.rt:44:5
 slice-write-out : tie.Need-slice-write-out
 slice-write-out c = search needs
 
--- src/places.rt:45:14
 shared-slice-read-out-2 : tie.Need-shared-slice-read-out-2
 shared-slice-read-out-2 c = search needs
 
--- src/places.rt:45:5
 slice-write-out-2 : tie.Need-slice-write-out-2
 slice-write-out-2 c = search needs
 
--- src/places.rt:46:14
 shared-slice-read-out-3 : tie.Need-shared-slice-read-out-3
 shared-slice-read-out-3 c = search needs
 
--- src/places.rt:46:5
 slice-write-out-3 : tie.Need-slice-write-out-3
 slice-write-out-3 c = search needs
 
--- src/places.rt:47:14
 shared-slice-read-out-4 : tie.Need-shared-slice-read-out-4
 shared-slice-read-out-4 c = search needs
 
--- src/places.rt:47:5
 slice-write-out-4 : tie.Need-slice-write-out-4
 slice-write-out-4 c = search needs
 
--- src/places.rt:40:1
 same-length : tie.Need-same-length
 same-length c = search needs
 
--- src/places.rt:40:1
 returns : tie.Need-returns
 returns c =
     let a = c .before .before .before .before .args in

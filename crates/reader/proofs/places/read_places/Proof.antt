@@ -53,48 +53,37 @@ module _ (c : lts.Else1 (read-record-reads.Asked, read-record-reads.Learnt, well
   few : c .before .before .before .before .before .before .before .before .before .before .before .before .loop .n < 64
   few = not-65th (linesIn (c .before .before .before .before .before .before .before .before .before .before .before .before .before .before .before .before .before .args .net .now)) (c .before .before .before .before .before .before .before .before .before .before .before .before .loop .n) (placeOf (c .before .before .before .before .before .before .before .before .before .before .before .before .loop .before)) (placeOf (c .before .before .before .before .before .before .before .before .before .read-record .last .1 .1 .1 .1 .1 .1 .0)) well
 
--- src/places.rt:55:20
 slice-read-stations : tie.Need-slice-read-stations Inv-loop μ-loop
 slice-read-stations c = search needs
 
--- src/places.rt:56:17
 slice-read-lines : tie.Need-slice-read-lines Inv-loop μ-loop
 slice-read-lines c = search needs
 
--- src/places.rt:61:5
 loop-holds : tie.Need-loop-holds Inv-loop μ-loop
 loop-holds c = (refl, refl, refl, refl, refl, omega arith, omega arith, at-start (c .before .before .before .before .args .file .now) (c .before .before .before .before .args .net .now) (c .before .before .before .before .args .from))
 
--- src/places.rt:62:17
 add-i : tie.Need-add-i Inv-loop μ-loop
 add-i c = search needs
 
--- src/places.rt:62:17
 add-i-2 : tie.Need-add-i-2 Inv-loop μ-loop
 add-i-2 c = search needs
 
--- src/places.rt:62:17
 add-i-3 : tie.Need-add-i-3 Inv-loop μ-loop
 add-i-3 c = search needs
 
--- src/places.rt:63:65
 slice-aggregate-read-record : tie.Need-slice-aggregate-read-record Inv-loop μ-loop
 slice-aggregate-read-record c = search needs
 
--- src/places.rt:63:13
 read-record-requires : tie.Need-read-record-requires Inv-loop μ-loop
 unfolding rows rowP
 read-record-requires c κs = (omega arith, omega arith, c .before .before .loop .inv .4)
 
--- src/places.rt:65:29
 enum-known-step : tie.Need-enum-known-step Inv-loop μ-loop
 enum-known-step c = search needs
 
--- src/places.rt:65:49
 same-length : tie.Need-same-length Inv-loop μ-loop
 same-length c = search needs
 
--- src/places.rt:65:49
 returns : tie.Need-returns Inv-loop μ-loop
 unfolding readSays
 returns c =
@@ -105,11 +94,9 @@ returns c =
     (says-stopped (a .file .now) (r .result) (r .last .1 .1 .1 .1 .1 .1 .0) _ (r .ensures .0) _ _ (c .before .step .given .1)))
     ∙ l .inv .7
 
--- src/places.rt:66:24
 enum-known-step-2 : tie.Need-enum-known-step-2 Inv-loop μ-loop
 enum-known-step-2 c = search needs
 
--- src/places.rt:70:13
 well-placed-requires : tie.Need-well-placed-requires Inv-loop μ-loop
 well-placed-requires c κs =
     let a = c .before .before .before .before .before .before .before .before .before .before .before .before .before .before .before .args in
@@ -122,11 +109,9 @@ well-placed-requires c κs =
     (says-next (a .file .now) (r .result) v _ (r .ensures .0) (s .given .0 .0) (s .given .1)) (r .kept .1 .1 .1 .1 .1 .1 .0 ∙ l .inv .4) in
     (omega arith, omega arith, b .0, omega arith, b .2, b .3)
 
--- src/places.rt:71:13
 same-length-2 : tie.Need-same-length-2 Inv-loop μ-loop
 same-length-2 c = search needs
 
--- src/places.rt:71:13
 returns-2 : tie.Need-returns-2 Inv-loop μ-loop
 unfolding readSays
 returns-2 c =
@@ -142,50 +127,39 @@ returns-2 c =
     (lines-kept 4873 (l .net) (a .net .now) (l .inv .3) (omega arith) (omega arith) (omega arith) (omega (arith, value-kept 4873 (l .net) (a .net .now) (l .inv .3) 1 (omega arith))))))
     ∙ l .inv .7
 
--- src/places.rt:76:24
 mul-a : tie.Need-mul-a Inv-loop μ-loop
 mul-a c = omega (arith, few c)
 
--- src/places.rt:76:17
 add-a : tie.Need-add-a Inv-loop μ-loop
 add-a c = omega (arith, few c)
 
--- src/places.rt:77:17
 add-e : tie.Need-add-e Inv-loop μ-loop
 add-e c = omega (arith, few c)
 
--- src/places.rt:78:19
 slice-aggregate-put-place : tie.Need-slice-aggregate-put-place Inv-loop μ-loop
 slice-aggregate-put-place c = search needs
 
--- src/places.rt:78:27
 mul-put-place : tie.Need-mul-put-place Inv-loop μ-loop
 mul-put-place c = omega (arith, few (c .before))
 
--- src/places.rt:78:27
 sub-put-place : tie.Need-sub-put-place Inv-loop μ-loop
 sub-put-place c = search needs
 
--- src/places.rt:78:27
 part-put-place-start : tie.Need-part-put-place-start Inv-loop μ-loop
 part-put-place-start c = search needs
 
--- src/places.rt:78:27
 part-put-place-end : tie.Need-part-put-place-end Inv-loop μ-loop
 part-put-place-end c = omega (arith, few (c .before))
 
--- src/places.rt:78:9
 put-place-requires : tie.Need-put-place-requires Inv-loop μ-loop
 put-place-requires c κs =
     let net = c .before .before .before .before .before .before .before .before .before .before .before .before .before .before .loop .net in
     let i = 4873 + 4 * c .before .before .before .before .before .before .before .before .before .before .before .before .before .before .loop .n in
     (many (c .before .before), length-take-le (i + 4 - i) (drop i net) (omega (arith, few (c .before .before), length-drop i net)) ∙ omega arith)
 
--- src/places.rt:80:9
 add-n : tie.Need-add-n Inv-loop μ-loop
 add-n c = omega (arith, few (c .before .before .before .before .before))
 
--- src/places.rt:61:5
 loop-less : tie.Need-loop-less Inv-loop μ-loop
 loop-less c =
     let l = c .before .before .before .before .before .before .before .before .before .before .before .before .before .before .before .before .before .loop in
@@ -193,7 +167,6 @@ loop-less c =
     let s = c .before .before .before .before .before .before .before .before .before .before .before .step2 in
     omega (arith, next-forward (c .before .before .before .before .before .before .before .before .before .before .before .before .before .before .before .before .before .before .before .before .before .before .args .file .now) (l .at) (r .result) (r .ensures .1) (s .given .0 .0) (s .given .1))
 
--- src/places.rt:61:5
 loop-again : tie.Need-loop-again Inv-loop μ-loop
 loop-again c =
     let a = c .before .before .before .before .before .before .before .before .before .before .before .before .before .before .before .before .before .before .before .before .before .before .args in
@@ -217,15 +190,12 @@ loop-again c =
           ∙ l .inv .7,
     )
 
--- src/places.rt:82:5
 slice-write-net : tie.Need-slice-write-net Inv-loop μ-loop
 slice-write-net c = search needs
 
--- src/places.rt:51:1
 same-length-3 : tie.Need-same-length-3 Inv-loop μ-loop
 same-length-3 c = search needs
 
--- src/places.rt:51:1
 returns-3 : tie.Need-returns-3 Inv-loop μ-loop
 unfolding readSays
 returns-3 c =

@@ -11,60 +11,47 @@ use Rattle.reader.proofs.places.well_placed.Reads as reads
 use Rattle.reader.proofs.places.well_placed.Lts as lts
 use Rattle.reader.proofs.places.comes_after.Reads as comes-after-reads
 
--- src/places.rt:29:9
 returns : tie.Need-returns
 returns c =
     let a = c .before .before .args in
     too-many (linesIn (a .net .now)) (a .n) (placeOf (a .before .now)) (placeOf (a .place .now)) (c .if1 .taken)
 
--- src/places.rt:31:9
 comes-after-requires : tie.Need-comes-after-requires
 comes-after-requires c κs = search needs
 
--- src/places.rt:32:9
 returns-2 : tie.Need-returns-2
 returns-2 c =
     let a = c .before .before .before .before .args in
     out-of-order (linesIn (a .net .now)) (a .n) (placeOf (a .before .now)) (placeOf (a .place .now))
     (sym (c .before .comes-after .ensures) ∙ not-true (c .before .comes-after .result) (c .if2 .taken))
 
--- src/places.rt:34:28
 element-copy-out-line : tie.Need-element-copy-out-line
 element-copy-out-line c = search needs
 
--- src/places.rt:34:28
 sub-line : tie.Need-sub-line
 sub-line c = search needs
 
--- src/places.rt:34:23
 mul-line : tie.Need-mul-line
 mul-line c = search needs
 
--- src/places.rt:34:16
 add-line : tie.Need-add-line
 add-line c = search needs
 
--- src/places.rt:35:17
 add-state : tie.Need-add-state
 add-state c = search needs
 
--- src/places.rt:35:28
 element-copy-out-state : tie.Need-element-copy-out-state
 element-copy-out-state c = search needs
 
--- src/places.rt:35:17
 add-state-2 : tie.Need-add-state-2
 add-state-2 c = search needs
 
--- src/places.rt:36:5
 mul-result : tie.Need-mul-result
 mul-result c = search needs
 
--- src/places.rt:36:5
 shared-slice-read-result : tie.Need-shared-slice-read-result
 shared-slice-read-result c = search needs
 
--- src/places.rt:24:1
 returns-3 : tie.Need-returns-3
 unfolding placeOf
 returns-3 c =

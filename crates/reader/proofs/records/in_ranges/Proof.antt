@@ -22,27 +22,21 @@ Inv-loop kind numbers stations lines field₀ field-end field =
 abbrev μ-loop : tie.MeasureT-loop
 μ-loop kind numbers stations lines field₀ field-end field = field-end - field
 
--- src/records.rt:24:5
 loop-holds : tie.Need-loop-holds Inv-loop μ-loop
 loop-holds c = (refl, omega arith, refl)
 
--- src/records.rt:25:43
 mul-in-range : tie.Need-mul-in-range Inv-loop μ-loop
 mul-in-range c = search needs
 
--- src/records.rt:25:43
 shared-slice-read-in-range : tie.Need-shared-slice-read-in-range Inv-loop μ-loop
 shared-slice-read-in-range c = search needs
 
--- src/records.rt:25:76
 shared-slice-read-in-range-2 : tie.Need-shared-slice-read-in-range-2 Inv-loop μ-loop
 shared-slice-read-in-range-2 c = search needs
 
--- src/records.rt:25:13
 in-range-requires : tie.Need-in-range-requires Inv-loop μ-loop
 in-range-requires c κs = omega (arith, row-short (c .before .before .before .before .before .args .kind))
 
--- src/records.rt:26:13
 returns : tie.Need-returns Inv-loop μ-loop
 returns c =
     let a = c .before .before .before .before .before .before .before .args in
@@ -51,15 +45,12 @@ returns c =
     (sym (c .before .in-range .ensures) ∙ not-true (c .before .in-range .result) (c .if1 .taken)))
     ∙ l .inv .2
 
--- src/records.rt:24:9
 add-field : tie.Need-add-field Inv-loop μ-loop
 add-field c = search needs
 
--- src/records.rt:24:5
 loop-less : tie.Need-loop-less Inv-loop μ-loop
 loop-less c = search needs
 
--- src/records.rt:24:5
 loop-again : tie.Need-loop-again Inv-loop μ-loop
 loop-again c =
     let a = c .before .before .before .before .before .before .before .args in
@@ -71,7 +62,6 @@ loop-again c =
           ∙ l .inv .2,
     )
 
--- src/records.rt:20:1
 returns-2 : tie.Need-returns-2 Inv-loop μ-loop
 returns-2 c =
     let a = c .before .before .before .args in

@@ -14,42 +14,33 @@ use Rattle.reader.proofs.format.part_end.Reads as part-end-reads
 use Rattle.reader.proofs.format.read_form.Reads as read-form-reads
 use Rattle.reader.proofs.records.in_ranges.Reads as in-ranges-reads
 
--- src/records.rt:46:9
 part-end-requires : tie.Need-part-end-requires
 part-end-requires c κs = search needs
 
--- src/records.rt:48:9
 returns : tie.Need-returns
 unfolding stepSays forward
 returns c =
     let a = c .before .before .before .before .args in
     (sym (not-closed (a .file .now) (a .at) (c .before .part-end .result) (c .before .part-end .ensures .0) (a .stations) (a .lines) (a .i) (kindAt (a .kind)) (omega arith)), tt)
 
--- src/records.rt:53:19
 sub-read-form : tie.Need-sub-read-form
 sub-read-form c = search needs
 
--- src/records.rt:53:19
 part-read-form-start : tie.Need-part-read-form-start
 part-read-form-start c = search needs
 
--- src/records.rt:53:19
 part-read-form-end : tie.Need-part-read-form-end
 part-read-form-end c = search needs
 
--- src/records.rt:53:35
 array-read-read-form : tie.Need-array-read-read-form
 array-read-read-form c = search needs
 
--- src/records.rt:53:9
 read-form-requires : tie.Need-read-form-requires
 read-form-requires c κs = search needs
 
--- src/records.rt:54:9
 same-length : tie.Need-same-length
 same-length c = search needs
 
--- src/records.rt:54:9
 returns-2 : tie.Need-returns-2
 unfolding stepSays forward letters
 returns-2 c =
@@ -61,15 +52,12 @@ returns-2 c =
       tt,
     )
 
--- src/records.rt:59:9
 in-ranges-requires : tie.Need-in-ranges-requires
 in-ranges-requires c κs = search needs
 
--- src/records.rt:60:9
 same-length-2 : tie.Need-same-length-2
 same-length-2 c = search needs
 
--- src/records.rt:60:9
 returns-3 : tie.Need-returns-3
 unfolding stepSays forward letters kindAt
 returns-3 c =
@@ -83,15 +71,12 @@ returns-3 c =
       tt,
     )
 
--- src/records.rt:65:16
 add-t9 : tie.Need-add-t9
 add-t9 c = search needs
 
--- src/records.rt:33:1
 same-length-3 : tie.Need-same-length-3
 same-length-3 c = search needs
 
--- src/records.rt:33:1
 returns-4 : tie.Need-returns-4
 unfolding stepSays forward letters kindAt
 returns-4 c =

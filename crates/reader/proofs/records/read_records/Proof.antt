@@ -31,11 +31,9 @@ Inv-loop file from kind first count stations lines numbers₀ width at₀ k₀ n
 abbrev μ-loop : tie.MeasureT-loop
 μ-loop file from kind first count stations lines numbers₀ width at₀ k₀ numbers at k = count - k
 
--- src/records.rt:94:9
 width-of-requires : tie.Need-width-of-requires Inv-loop μ-loop
 width-of-requires c κs = search needs
 
--- src/records.rt:96:5
 loop-holds : tie.Need-loop-holds Inv-loop μ-loop
 unfolding recordsIn
 loop-holds c =
@@ -49,35 +47,27 @@ loop-holds c =
           ∙ ap₂ (λ (i n : ℕ). readRecords (a .stations) (a .lines) i (kindAt (a .kind)) n (recordsOf (drop (a .from) (a .file .now)))) {x = a .first + 0} {y = a .first} {u = a .count - 0} {v = a .count} (omega arith) (omega arith),
     )
 
--- src/records.rt:97:17
 mul-a : tie.Need-mul-a Inv-loop μ-loop
 mul-a c = omega (arith, room (c .before .loop .k) (c .before .before .before .before .before .args .count) (c .before .before .width-of .result) (omega arith))
 
--- src/records.rt:98:17
 add-e : tie.Need-add-e Inv-loop μ-loop
 add-e c = omega (arith, room (c .before .loop .k) (c .before .before .before .before .before .args .count) (c .before .before .width-of .result) (omega arith))
 
--- src/records.rt:99:48
 add-read-record : tie.Need-add-read-record Inv-loop μ-loop
 add-read-record c = search needs
 
--- src/records.rt:99:83
 mul-read-record : tie.Need-mul-read-record Inv-loop μ-loop
 mul-read-record c = omega (arith, room (c .before .loop .k) (c .before .before .before .before .before .args .count) (c .before .before .width-of .result) (omega arith))
 
--- src/records.rt:99:83
 sub-read-record : tie.Need-sub-read-record Inv-loop μ-loop
 sub-read-record c = search needs
 
--- src/records.rt:99:83
 part-read-record-start : tie.Need-part-read-record-start Inv-loop μ-loop
 part-read-record-start c = search needs
 
--- src/records.rt:99:83
 part-read-record-end : tie.Need-part-read-record-end Inv-loop μ-loop
 part-read-record-end c = omega (arith, room (c .before .loop .k) (c .before .before .before .before .before .args .count) (c .before .before .width-of .result) (omega arith))
 
--- src/records.rt:99:13
 read-record-requires : tie.Need-read-record-requires Inv-loop μ-loop
 read-record-requires c κs = (
   omega arith,
@@ -86,15 +76,12 @@ read-record-requires c κs = (
       ∙ c .before .before .loop .inv .0,
 )
 
--- src/records.rt:101:29
 enum-known-step : tie.Need-enum-known-step Inv-loop μ-loop
 enum-known-step c = search needs
 
--- src/records.rt:101:49
 same-length : tie.Need-same-length Inv-loop μ-loop
 same-length c = search needs
 
--- src/records.rt:101:49
 returns : tie.Need-returns Inv-loop μ-loop
 unfolding stepSays within
 returns c =
@@ -107,19 +94,15 @@ returns c =
       tt,
     )
 
--- src/records.rt:102:24
 enum-known-step-2 : tie.Need-enum-known-step-2 Inv-loop μ-loop
 enum-known-step-2 c = search needs
 
--- src/records.rt:96:9
 add-k : tie.Need-add-k Inv-loop μ-loop
 add-k c = search needs
 
--- src/records.rt:96:5
 loop-less : tie.Need-loop-less Inv-loop μ-loop
 loop-less c = search needs
 
--- src/records.rt:96:5
 loop-again : tie.Need-loop-again Inv-loop μ-loop
 loop-again c =
     let a = c .before .before .before .before .before .before .before .before .before .before .before .before .args in
@@ -143,11 +126,9 @@ loop-again c =
           ∙ l .inv .5,
     )
 
--- src/records.rt:80:1
 same-length-2 : tie.Need-same-length-2 Inv-loop μ-loop
 same-length-2 c = search needs
 
--- src/records.rt:80:1
 returns-2 : tie.Need-returns-2 Inv-loop μ-loop
 unfolding stepSays within
 returns-2 c =

@@ -6,15 +6,12 @@ use Rattle.reader.proofs.records.width_of.Tie as tie
 use Rattle.reader.proofs.records.width_of.Reads as reads
 use Rattle.reader.proofs.records.width_of.Lts as lts
 
--- src/records.rt:76:5
 mul-result : tie.Need-mul-result
 mul-result c = search needs
 
--- src/records.rt:76:5
 array-read-result : tie.Need-array-read-result
 array-read-result c = search needs
 
--- src/records.rt:72:1
 returns : tie.Need-returns
 returns c =
     let k = c .args .kind in
