@@ -1,13 +1,16 @@
 -- What loading a file answers: the rules 4 to 8 in turn, and the network of an accepted file in the buffer.
-use Prim.Native.Nat.{ℕ}
+use Prim.Native.Nat.{ℕ, _≤_}
 use mathlib.Core.Path.{_≡_, refl}
-use mathlib.Core.Bool.{not}
+use mathlib.Core.Bool.{true, false, not}
 use mathlib.Core.List.{List}
-use Rattle.model.specs.Answer.{Answer, given, refused, refuseOpenLine, refusePlainAtHV, refuseReturn, refuseJoined, refuseUnsupplied, refuseSeries}
+use Rattle.model.specs.Answer.{Answer, given, refused, _>>=_, refuseOpenLine, refusePlainAtHV, refuseReturn, refuseJoined, refuseUnsupplied, refuseSeries}
 use Rattle.model.specs.Network.{Network}
 use Rattle.model.specs.Paths.{stationNumbers, lineNumbers}
-use Rattle.model.specs.Rules.{bothOpen, unprotected, somePathReturns, someJoined, isSupplied, seriesBroken, unless, unlessSome, stationRecord, lineRecord, radial}
+use Rattle.model.specs.Rules.{bothOpen, unprotected, somePathReturns, someJoined, isSupplied, seriesBroken, unless, unlessSome, stationRecord, lineRecord, radial, accepted}
 use Rattle.model.specs.declared.CheckAnswer.{CheckAnswer}
+use Rattle.model.specs.declared.SearchAnswer.{SearchAnswer}
+use Rattle.model.specs.Walk.{Found, search}
+use lib.ListN.{take}
 use Rattle.buffer.specs.Buffer.{networkIn}
 use Rattle.tree.specs.Linked.{Linked}
 use Rattle.tree.specs.Outwards.{Outwards}
@@ -41,3 +44,19 @@ loaded answer b = before answer (given (networkIn b))
 pub record Prepared (N : Network) (heads nexts near feed order : List ℕ) : Type 0 where
   pub linked : Linked N heads nexts
   pub outwards : Outwards N near feed order
+
+-- what the search of a file finds
+abbrev pub fileFound : List ℕ → Answer Found
+fileFound file = accepted file >>= λ N. given (search N)
+
+-- what Search found by its answer, with the set's places at the start of a list
+unfoldable pub foundBy : SearchAnswer → List ℕ → Answer Found
+foundBy (SearchAnswer.Finished m t v) best = given (record { members = take m best; best = t; visits = v; spent = false })
+foundBy (SearchAnswer.Spent m t v) best = given (record { members = take m best; best = t; visits = v; spent = true })
+foundBy (SearchAnswer.Refused number place) best = refused number place
+
+-- the answered set has at most 16 places
+unfoldable pub AtMost16 : SearchAnswer → Type 0
+AtMost16 (SearchAnswer.Finished m t v) = m ≤ 16
+AtMost16 (SearchAnswer.Spent m t v) = m ≤ 16
+AtMost16 (SearchAnswer.Refused number place) = Unit

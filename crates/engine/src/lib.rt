@@ -1,19 +1,27 @@
 // The calls of the engine.
 ghost use mathlib.Core.Path.{_≡_};
-ghost use Rattle.model.specs.Answer.{Answer};
+ghost use mathlib.Core.List.{List, _++_};
+ghost use Prim.Native.Nat.{ℕ, _≤_};
+ghost use lib.ListN.{length, take, drop};
+ghost use Rattle.model.specs.Answer.{Answer, given};
 ghost use Rattle.model.specs.Network.{Network};
 ghost use Rattle.theory.specs.Reading.{Read};
 ghost use Rattle.theory.specs.Radial.{Rules};
 ghost use Rattle.buffer.specs.Buffer.{networkIn};
 ghost use Rattle.model.specs.Rules.{radial, accepted};
-ghost use Rattle.model.specs.Calls.{checked, checkSays, impactAnswered, impactSays, totalled, totalSays};
+ghost use Rattle.model.specs.Calls.{checked, checkSays, impactAnswered, impactSays, totalled, totalSays, searchAnswered, searchLeaves, searchSays};
+ghost use Rattle.model.specs.Demand.{Demand3};
 ghost use Rattle.theory.specs.Best.{Accepted};
 ghost use Rattle.outage.specs.Held.{HoldsImpacts};
-ghost use Rattle.engine.specs.Loading.{forest, before, loaded, Prepared};
+ghost use Rattle.model.specs.Walk.{search};
+ghost use Rattle.search.specs.Walking.{foundIn, HoldsBounds, Alone};
+ghost use Rattle.engine.specs.Loading.{forest, before, loaded, Prepared, fileFound, foundBy, AtMost16};
 use model::CheckAnswer;
 use model::ImpactAnswer;
+use model::SearchAnswer;
 use model::TotalAnswer;
 use reader::ReadAnswer;
+use search::Progress;
 
 // The rules 4 to 8 in turn.
 fn forest_rules(net: &[u64; 5129]) -> CheckAnswer
@@ -215,6 +223,155 @@ pub fn total(file: &[u8]) -> TotalAnswer
             TotalAnswer::Outage { total, figure }
         }
     }
+}
+
+// The table of the bounds of an accepted network, whose own copy is `work`.
+fn bound_table(
+    net: &[u64; 5129],
+    work: &mut [u64; 5129],
+    near: &[u64; 768],
+    feed: &[u64; 768],
+    order: &[u64; 768],
+    sums: &[u64; 768],
+    impacts: &mut [u64; 768],
+    bounds: &mut [u64; 1105],
+)
+    requires { ⌜ Alone (now net) (now work) (now near) (now feed) (now order) (now sums) × (length (now bounds) ≡ 1105) ⌝ }
+    ensures { λ r. ⌜ HoldsBounds (networkIn (now (net .entry))) (now (bounds .exit)) × (now (work .exit) ≡ now (work .entry)) ⌝ }
+{
+    let mut savings = [0u64; 64];
+    search::savings_of(net, work, near, feed, order, sums, impacts, &mut savings);
+    search::bound_table(&savings, buffer::places(net), bounds);
+}
+
+// The length of a network's buffer.
+fn full_length(net: &[u64])
+    requires { ⌜ length (now net) ≡ 5129 ⌝ }
+    ensures { λ r. ⌜ length (now (net .entry)) ≡ 5129 ⌝ }
+{}
+
+// Writes the first `count` numbers of a list at the start of a buffer.
+fn put_members(list: &[u64; 16], count: usize, members: &mut [u64])
+    requires { ⌜ (length (now list) ≡ 16) × (count ≤ 16) × (16 ≤ length (now members)) ⌝ }
+    ensures { λ r. ⌜ now (members .exit) ≡ take count (now (list .entry)) ++ drop count (now (members .entry)) ⌝ }
+{
+    for i in 0..count {
+        members[i] = list[i];
+    }
+}
+
+// The search of an accepted network: what it found, with the best set's places at the start of `best`.
+fn walk(
+    net: &[u64; 5129],
+    heads: &[u64; 512],
+    nexts: &[u64; 1536],
+    near: &[u64; 768],
+    feed: &[u64; 768],
+    order: &[u64; 768],
+    best: &mut [u64; 16],
+) -> Progress
+    requires { ⌜ Accepted (networkIn (now net)) × Prepared (networkIn (now net)) (now heads) (now nexts) (now near) (now feed) (now order) ⌝ }
+    ensures { λ r. ⌜ (foundIn r (now (best .exit)) ≡ search (networkIn (now (net .entry)))) × (length (now (best .exit)) ≡ 16) × (r .count ≤ 16) ⌝ }
+{
+    let mut sums = lines_space();
+    outage::customers_behind(net, heads, nexts, &mut sums);
+    full_length(net);
+    let mut work = *net;
+    let mut impacts = lines_space();
+    let mut bounds = [0u64; 1105];
+    bound_table(
+        net,
+        &mut work,
+        near,
+        feed,
+        order,
+        &sums,
+        &mut impacts,
+        &mut bounds,
+    );
+    let mut set = [0u64; 16];
+    *best = [0u64; 16];
+    search::walk(
+        net,
+        &mut work,
+        near,
+        feed,
+        order,
+        &sums,
+        &mut impacts,
+        &bounds,
+        &mut set,
+        best,
+    )
+}
+
+// The answer to what a search found.
+fn found_answer(found: Progress) -> SearchAnswer
+    requires { ⌜ found .count ≤ 16 ⌝ }
+    ensures { λ r. ⌜ ((best : List ℕ) → foundBy r best ≡ given (foundIn found best)) × AtMost16 r ⌝ }
+{
+    if found.spent {
+        return SearchAnswer::Spent {
+            members: found.count,
+            total: found.best,
+            visits: found.visits,
+        };
+    }
+    SearchAnswer::Finished {
+        members: found.count,
+        total: found.best,
+        visits: found.visits,
+    }
+}
+
+// Reads, checks and searches a file. Where it is accepted, the best set's places are left at the start of `best`.
+fn load_search(file: &[u8], best: &mut [u64; 16]) -> SearchAnswer
+    requires { ⌜ length (now best) ≡ 16 ⌝ }
+    ensures { λ r. ⌜ (foundBy r (now (best .exit)) ≡ fileFound (now (file .entry))) × AtMost16 r × (length (now (best .exit)) ≡ 16) ⌝ }
+{
+    let mut net = net_space();
+    let mut heads = labels_space();
+    let mut nexts = nexts_space();
+    let mut near = lines_space();
+    let mut feed = lines_space();
+    let mut order = lines_space();
+    match load(
+        file,
+        &mut net,
+        &mut heads,
+        &mut nexts,
+        &mut near,
+        &mut feed,
+        &mut order,
+    ) {
+        CheckAnswer::Refused { number, record } => SearchAnswer::Refused { number, record },
+        CheckAnswer::Accepted => {
+            let found = walk(&net, &heads, &nexts, &near, &feed, &order, best);
+            found_answer(found)
+        }
+    }
+}
+
+// Search: which places should get a breaker. Their numbers are written at the start of `members`.
+pub fn search(file: &[u8], members: &mut [u64]) -> SearchAnswer
+    ensures { λ r. ⌜ searchSays r ≡ searchAnswered (now (file .entry)) (now (members .entry)) ⌝ }
+    ensures { λ r. ⌜ now (members .exit) ≡ searchLeaves (now (file .entry)) (now (members .entry)) ⌝ }
+    ensures { λ r. ⌜ Demand3 (now (file .entry)) r (now (members .exit)) ⌝ }
+{
+    if members.len() < 16 {
+        return SearchAnswer::Refused {
+            number: 10,
+            record: 0,
+        };
+    }
+    let mut best = [0u64; 16];
+    let answer = load_search(file, &mut best);
+    match answer {
+        SearchAnswer::Refused { .. } => {}
+        SearchAnswer::Finished { members: count, .. } => put_members(&best, count, members),
+        SearchAnswer::Spent { members: count, .. } => put_members(&best, count, members),
+    }
+    answer
 }
 
 // Room for a network.

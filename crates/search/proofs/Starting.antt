@@ -30,6 +30,7 @@ module _ {net work near feed order sums bounds set₀ best : List ℕ} (x : Star
   pub counted-none : Counted N first
   counted-none = record {
     best = omega (arith, total-none, setTotal-size N (read-sized N (x .alone .tables .accepted .read)) []);
+    count = omega arith;
     visits = omega arith;
     limit = x .alone .tables .accepted .read .head .visits .high;
   }

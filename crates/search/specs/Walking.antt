@@ -41,9 +41,10 @@ tried N left S q f =
     let T = S ++ (q ∷ []) in
     elim (allowed N T) [ true ↦ extended N left T (q + 1) (visited N T f) | false ↦ f ]
 
--- the best total and the limit are such as a file can have, and the visits are within the limit
+-- the best total and the limit are such as a file can have, the best set has room, and the visits are within the limit
 pub record Counted (N : Network) (p : Progress) : Type 0 where
   pub best : p .best ≤ 7864320000000000
+  pub count : p .count ≤ 16
   pub visits : p .visits ≤ N .head .visits
   pub limit : N .head .visits ≤ 1000000000
 

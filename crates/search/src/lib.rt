@@ -349,7 +349,7 @@ pub fn walk(
     best: &mut [u64; 16],
 ) -> Progress
     requires { ⌜ Starting (now net) (now work) (now near) (now feed) (now order) (now sums) (now bounds) (now set) (now best) ⌝ }
-    ensures { λ r. ⌜ (foundIn r (now (best .exit)) ≡ search (networkIn (now (net .entry)))) × (now (work .exit) ≡ now (work .entry)) ⌝ }
+    ensures { λ r. ⌜ (foundIn r (now (best .exit)) ≡ search (networkIn (now (net .entry)))) × (now (work .exit) ≡ now (work .entry)) × (length (now (best .exit)) ≡ 16) × (r .count ≤ 16) ⌝ }
 {
     let total = total_of_work(work, near, feed, order, sums, impacts);
     let start = Progress {

@@ -20,7 +20,7 @@ returns c =
     let S = take (d .args .size) (d .args .set .now) in
     let f : Found = foundIn (d .args .progress) (d .args .best .now) in
     let k = d .pre .4 in
-    (d .pre .1, record { best = k .best; visits = k .visits; limit = k .limit }, visit-spent n S f (c .if1 .taken ∙ sym (visits-at (d .args .net .now))))
+    (d .pre .1, record { best = k .best; count = k .count; visits = k .visits; limit = k .limit }, visit-spent n S f (c .if1 .taken ∙ sym (visits-at (d .args .net .now))))
 
 add-visits : tie.Need-add-visits
 add-visits c = search needs
@@ -37,7 +37,7 @@ returns-2 c =
     let k = c .copy-set in
     let l : d .args .progress .visits ≡ n .head .visits → ⊥ = λ e. c .before .before .before .before .before .if1 .left (e ∙ visits-at (d .args .net .now)) in (
       k .ensures .0,
-      record { best = omega arith; visits = omega arith; limit = d .pre .4 .limit },
+      record { best = omega arith; count = d .pre .2; visits = omega arith; limit = d .pre .4 .limit },
       visit-better n S f (take (d .args .size) (k .last .1 .1 .0)) (d .args .total) (k .ensures .1) (d .pre .3) l (c .before .before .if2 .taken),
     )
 
@@ -48,7 +48,7 @@ returns-3 c =
     let S = take (d .args .size) (d .args .set .now) in
     let f : Found = foundIn (d .args .progress) (d .args .best .now) in
     let l : d .args .progress .visits ≡ n .head .visits → ⊥ = λ e. c .before .before .before .if1 .left (e ∙ visits-at (d .args .net .now)) in
-    (d .pre .1, record { best = d .pre .4 .best; visits = omega arith; limit = d .pre .4 .limit }, visit-other n S f (d .args .total) (d .pre .3) l (c .if2 .left))
+    (d .pre .1, record { best = d .pre .4 .best; count = d .pre .4 .count; visits = omega arith; limit = d .pre .4 .limit }, visit-other n S f (d .args .total) (d .pre .3) l (c .if2 .left))
 
 pub visit-spec : {M : Type 1} → statement M
 visit-spec =

@@ -31,7 +31,7 @@ returns c =
     let v = c .before .before .before .before .before .before .visit in
     let l = c .extend .ensures in
     let f : Found = foundIn (v .result) (v .last .1 .1 .1 .1 .0) in
-    (l .found ∙ search-is x (c .before .before .before .before .before .before .before .before .before .total-of-work .ensures) f (v .ensures .2), l .workSame)
+    (l .found ∙ search-is x (c .before .before .before .before .before .before .before .before .before .total-of-work .ensures) f (v .ensures .2), l .workSame, l .bestLong, l .counted .count)
 
 pub walk-spec : {M : Type 1} → statement M
 walk-spec =

@@ -1,0 +1,34 @@
+-- What a search found, and its answer.
+use Prim.Native.Nat.{ℕ, _≤_}
+use mathlib.Core.Path.{_≡_, sym, ap, _∙_}
+use mathlib.Core.Bool.{true, false}
+use mathlib.Core.List.{List}
+use lib.ListN.{take}
+use Rattle.model.specs.Answer.{given}
+use Rattle.model.specs.Rules.{accepted}
+use Rattle.model.specs.Walk.{Found, search}
+use Rattle.model.specs.declared.CheckAnswer.{CheckAnswer}
+use Rattle.model.specs.declared.SearchAnswer.{SearchAnswer}
+use Rattle.buffer.specs.Buffer.{networkIn}
+use Rattle.search.specs.Walking.{foundIn}
+use Rattle.search.specs.declared.Progress.{Progress}
+use Rattle.engine.specs.Loading.{before, loaded, fileFound, foundBy, AtMost16}
+use Rattle.engine.proofs.Loads.{answered, same-answer}
+
+module _ (p : Progress) (few : p .count ≤ 16) where
+  pub answer-spent : p .spent ≡ true → ((best : List ℕ) → foundBy (SearchAnswer.Spent (p .count) (p .best) (p .visits)) best ≡ given (foundIn p best)) × AtMost16 (SearchAnswer.Spent (p .count) (p .best) (p .visits))
+  unfolding foundBy AtMost16
+  answer-spent e = (λ best. λ i. given (record { members = take (p .count) best; best = p .best; visits = p .visits; spent = sym e i }), few)
+
+  pub answer-finished : p .spent ≡ false → ((best : List ℕ) → foundBy (SearchAnswer.Finished (p .count) (p .best) (p .visits)) best ≡ given (foundIn p best)) × AtMost16 (SearchAnswer.Finished (p .count) (p .best) (p .visits))
+  unfolding foundBy AtMost16
+  answer-finished e = (λ best. λ i. given (record { members = take (p .count) best; best = p .best; visits = p .visits; spent = sym e i }), few)
+
+module _ (file b : List ℕ) (r : CheckAnswer) (h : loaded r b ≡ accepted file) where
+  pub found-refused : {n i : ℕ} (best : List ℕ) → r ≡ CheckAnswer.Refused n i → (foundBy (SearchAnswer.Refused n i) best ≡ fileFound file) × AtMost16 (SearchAnswer.Refused n i)
+  unfolding foundBy AtMost16 before
+  found-refused best e = (answered file b (λ N. given (search N)) (CheckAnswer.Refused _ _) (same-answer file b r h e), tt)
+
+  pub found-given : (a : SearchAnswer) (p : Progress) (best : List ℕ) → r ≡ CheckAnswer.Accepted → foundBy a best ≡ given (foundIn p best) → foundIn p best ≡ search (networkIn b) → foundBy a best ≡ fileFound file
+  unfolding before
+  found-given a p best e f s = f ∙ ap (λ x. given x) s ∙ answered file b (λ N. given (search N)) CheckAnswer.Accepted (same-answer file b r h e)
