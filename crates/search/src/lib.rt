@@ -309,9 +309,9 @@ fn saving_of(
     requires { ⌜ Entering (now net) (now work) (now near) (now feed) (now order) (now sums) [] place × (alone ≡ total (networkIn (now net))) ⌝ }
     ensures { λ r. ⌜ (r ≡ saving (networkIn (now (net .entry))) place) × (now (work .exit) ≡ now (work .entry)) ⌝ }
 {
-    let state = enter(net, work, place);
+    let former = enter(net, work, place);
     let total = total_of_work(work, near, feed, order, sums, impacts);
-    leave(net, work, place, state);
+    leave(net, work, place, former);
     alone - total
 }
 
