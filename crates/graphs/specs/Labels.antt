@@ -8,9 +8,8 @@ use mathlib.Core.Bool.{cond}
 use native.Mathlib.Decide.{ℕ-discrete}
 use lib.Dec.{eqb}
 use borrow.Author.Tests.{eq-eqb, ne-eqb}
-use Rattle.graphs.specs.Graph.{Graph, Walk, stop, step, Fresh, Trail, Connected, Cyclic, Reach, Edges, Without, Split, cut, split-once, begins, Reach-trans}
+use Rattle.graphs.specs.Graph.{Graph, Walk, stop, step, Fresh, Connected, Cyclic, Reach, Edges, Without, Split, cut, split-once, begins, Reach-trans}
 use Rattle.graphs.specs.Graph.{Reach-edge, Reach→Connected, closes, widen, Cyclic-widen, avoid}
-use Rattle.graphs.specs.Tree.{Lone}
 
 -- the labels of the vertices that are In tell what is connected, and there is no cycle
 pub record Labels {N E : Type 0} (In : N → Type 0) (J : Graph N E) (lab : N → ℕ) : Type 0 where
@@ -142,8 +141,5 @@ module _ {N E : Type 0} (dec : Discrete E) {In : N → Type 0} {J K : Graph N E}
 
 -- ── what the labels say of roots ──
 module _ {N E : Type 0} {In : N → Type 0} {J : Graph N E} {lab : N → ℕ} (L : Labels In J lab) {R : N → Type 0} (low : (r : N) → R r → In r) where
-  pub lone-is : Lone J R ↔ ((r s : N) → R r → R s → lab r ≡ lab s → r ≡ s)
-  lone-is = (λ h r s p q e. h r s p q (L .same r s (low r p) (low s q) .0 e), λ h r s p q k. h r s p q (L .same r s (low r p) (low s q) .1 k))
-
   pub supplied-is : (v : N) → In v → ((r : N) × R r × Connected J v r) ↔ ((r : N) × R r × (lab v ≡ lab r))
   supplied-is v l = (λ h. (h .0, h .1, L .same v (h .0) l (low (h .0) (h .1)) .1 (h .2)), λ h. (h .0, h .1, L .same v (h .0) l (low (h .0) (h .1)) .0 (h .2)))

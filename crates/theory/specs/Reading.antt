@@ -24,11 +24,6 @@ pub all-map : {A B : Type 0} (P : A → Type 0) (Q : B → Type 0) (f : A → B)
 all-map P Q f g [] a = tt
 all-map P Q f g (x ∷ xs) a = (g x (a .0), all-map P Q f g xs (a .1))
 
-pub all-getD : {A : Type 0} (P : A → Type 0) (xs : List A) (i : ℕ) (d : A) → All P xs → i < length xs → P (getD xs i d)
-all-getD P [] i d a h = absurd (omega arith)
-all-getD P (x ∷ xs) zero d a h = a .0
-all-getD P (x ∷ xs) (suc i) d a h = all-getD P xs i d (a .1) (omega arith)
-
 -- ── answers ──
 pub given-eq : {A : Type 0} (a b : A) → given a ≡ given b → a ≡ b
 given-eq a b e = cc

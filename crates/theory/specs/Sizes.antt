@@ -14,7 +14,7 @@ use Rattle.model.specs.Paths.{End, stationNumbers, lineNumbers, noStation, cust
 use Rattle.model.specs.Outage.{passes, customersBehind, tripped, impact, outageAmount, total, figure}
 use Rattle.model.specs.Sets.{placeAt, lineWithBreaker, withBreaker, withBreakers, setTotal, saving}
 use Rattle.model.specs.Walk.{insert, falling, largest}
-use Rattle.theory.specs.Reading.{All, all-getD, Read, StationFits, LineFits, Within}
+use Rattle.theory.specs.Reading.{All, Read, StationFits, LineFits, Within}
 
 -- ── lists ──
 pub numbers-length : (from count : ℕ) → length (numbers from count) ≡ count
