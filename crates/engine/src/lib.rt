@@ -44,7 +44,7 @@ fn forest_rules(net: &[u64; 5129]) -> CheckAnswer
             record: 1 + stations + plain,
         };
     }
-    let mut labels = labels_space();
+    let mut labels = stations_space();
     if radial::path_returns(net, &mut labels) {
         return CheckAnswer::Refused {
             number: 6,
@@ -67,8 +67,8 @@ fn forest_rules(net: &[u64; 5129]) -> CheckAnswer
     CheckAnswer::Accepted
 }
 
-// Room for a label of each station.
-fn labels_space() -> [u64; 512] {
+// Room for a number of each station.
+fn stations_space() -> [u64; 512] {
     [0; 512]
 }
 
@@ -127,7 +127,7 @@ pub fn check(file: &[u8]) -> CheckAnswer
     ensures { λ r. ⌜ checkSays r ≡ checked (now (file .entry)) ⌝ }
 {
     let mut net = net_space();
-    let mut heads = labels_space();
+    let mut heads = stations_space();
     let mut nexts = nexts_space();
     let mut near = lines_space();
     let mut feed = lines_space();
@@ -166,7 +166,7 @@ fn load_impacts(file: &[u8], net: &mut [u64; 5129], out: &mut [u64; 768]) -> Che
     ensures { λ r. ⌜ loaded r (now (net .exit)) ≡ accepted (now (file .entry)) ⌝ }
     ensures { λ r. ⌜ (r ≡ CheckAnswer.Accepted → HoldsImpacts (networkIn (now (net .exit))) (now (out .exit))) ⌝ }
 {
-    let mut heads = labels_space();
+    let mut heads = stations_space();
     let mut nexts = nexts_space();
     let mut near = lines_space();
     let mut feed = lines_space();
@@ -330,7 +330,7 @@ fn load_search(file: &[u8], best: &mut [u64; 16]) -> SearchAnswer
     ensures { λ r. ⌜ (foundBy r (now (best .exit)) ≡ fileFound (now (file .entry))) × AtMost16 r × (length (now (best .exit)) ≡ 16) ⌝ }
 {
     let mut net = net_space();
-    let mut heads = labels_space();
+    let mut heads = stations_space();
     let mut nexts = nexts_space();
     let mut near = lines_space();
     let mut feed = lines_space();

@@ -4,7 +4,7 @@ use Rattle.engine.proofs.check.Statement.{statement}
 use Rattle.engine.proofs.check.Tie as tie
 use Rattle.engine.proofs.check.Reads as reads
 use Rattle.engine.proofs.check.Lts as lts
-use Rattle.engine.proofs.labels_space.Reads as labels-space-reads
+use Rattle.engine.proofs.stations_space.Reads as stations-space-reads
 use Rattle.engine.proofs.lines_space.Reads as lines-space-reads
 use Rattle.engine.proofs.load.Reads as load-reads
 use Rattle.engine.proofs.net_space.Reads as net-space-reads
@@ -13,8 +13,8 @@ use Rattle.engine.proofs.nexts_space.Reads as nexts-space-reads
 net-space-requires : tie.Need-net-space-requires
 net-space-requires c κs = search needs
 
-labels-space-requires : tie.Need-labels-space-requires
-labels-space-requires c κs = search needs
+stations-space-requires : tie.Need-stations-space-requires
+stations-space-requires c κs = search needs
 
 nexts-space-requires : tie.Need-nexts-space-requires
 nexts-space-requires c κs = search needs
@@ -41,7 +41,7 @@ check-spec =
     tie.close
     (tie.spec
     net-space-requires
-    labels-space-requires
+    stations-space-requires
     nexts-space-requires
     lines-space-requires
     lines-space-requires-2

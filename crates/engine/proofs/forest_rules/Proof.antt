@@ -9,7 +9,7 @@ use Rattle.engine.proofs.forest_rules.Tie as tie
 use Rattle.engine.proofs.forest_rules.Reads as reads
 use Rattle.engine.proofs.forest_rules.Lts as lts
 use Rattle.buffer.proofs.stations.Reads as stations-reads
-use Rattle.engine.proofs.labels_space.Reads as labels-space-reads
+use Rattle.engine.proofs.stations_space.Reads as stations-space-reads
 use Rattle.radial.proofs.hv_joined.Reads as hv-joined-reads
 use Rattle.radial.proofs.open_line.Reads as open-line-reads
 use Rattle.radial.proofs.path_returns.Reads as path-returns-reads
@@ -54,8 +54,8 @@ returns-2 c =
     let a3 = c .before in let a2 = a3 .before .before in let net = a2 .before .before .args .net .now in let n = a2 .before .stations .result in let o = a2 .open-line .result in
     says-5 (networkIn net) n o (a2 .before .stations .ensures) (a2 .open-line .ensures) (a3 .before .if1 .left) (a3 .plain-at-hv .result) (a3 .plain-at-hv .ensures) (c .if2 .taken)
 
-labels-space-requires : tie.Need-labels-space-requires
-labels-space-requires c κs = search needs
+stations-space-requires : tie.Need-stations-space-requires
+stations-space-requires c κs = search needs
 
 path-returns-requires : tie.Need-path-returns-requires
 path-returns-requires c κs = search needs
@@ -109,7 +109,7 @@ forest-rules-spec =
     add-t11
     add-t12
     returns-2
-    labels-space-requires
+    stations-space-requires
     path-returns-requires
     returns-3
     hv-joined-requires

@@ -6,13 +6,13 @@ use Rattle.engine.proofs.load_impacts.Tie as tie
 use Rattle.engine.proofs.load_impacts.Reads as reads
 use Rattle.engine.proofs.load_impacts.Lts as lts
 use Rattle.engine.proofs.impacts.Reads as impacts-reads
-use Rattle.engine.proofs.labels_space.Reads as labels-space-reads
+use Rattle.engine.proofs.stations_space.Reads as stations-space-reads
 use Rattle.engine.proofs.lines_space.Reads as lines-space-reads
 use Rattle.engine.proofs.load.Reads as load-reads
 use Rattle.engine.proofs.nexts_space.Reads as nexts-space-reads
 
-labels-space-requires : tie.Need-labels-space-requires
-labels-space-requires c κs = search needs
+stations-space-requires : tie.Need-stations-space-requires
+stations-space-requires c κs = search needs
 
 nexts-space-requires : tie.Need-nexts-space-requires
 nexts-space-requires c κs = search needs
@@ -57,7 +57,7 @@ pub load-impacts-spec : {M : Type 1} → statement M
 load-impacts-spec =
     tie.close
     (tie.spec
-    labels-space-requires
+    stations-space-requires
     nexts-space-requires
     lines-space-requires
     lines-space-requires-2

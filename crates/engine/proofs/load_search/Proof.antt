@@ -6,7 +6,7 @@ use Rattle.engine.proofs.load_search.Tie as tie
 use Rattle.engine.proofs.load_search.Reads as reads
 use Rattle.engine.proofs.load_search.Lts as lts
 use Rattle.engine.proofs.found_answer.Reads as found-answer-reads
-use Rattle.engine.proofs.labels_space.Reads as labels-space-reads
+use Rattle.engine.proofs.stations_space.Reads as stations-space-reads
 use Rattle.engine.proofs.lines_space.Reads as lines-space-reads
 use Rattle.engine.proofs.load.Reads as load-reads
 use Rattle.engine.proofs.net_space.Reads as net-space-reads
@@ -18,8 +18,8 @@ net-space-requires : tie.Need-net-space-requires
 net-space-requires c κs = search needs
 
 -- src/lib.rt:342:21
-labels-space-requires : tie.Need-labels-space-requires
-labels-space-requires c κs = search needs
+stations-space-requires : tie.Need-stations-space-requires
+stations-space-requires c κs = search needs
 
 -- src/lib.rt:343:21
 nexts-space-requires : tie.Need-nexts-space-requires
@@ -81,7 +81,7 @@ load-search-spec =
     tie.close
     (tie.spec
     net-space-requires
-    labels-space-requires
+    stations-space-requires
     nexts-space-requires
     lines-space-requires
     lines-space-requires-2
