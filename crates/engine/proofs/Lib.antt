@@ -5,3 +5,4 @@ pub mod Searching
 pub mod Members
 pub mod Found
 pub mod Calling
+pub mod Reporting

@@ -9,15 +9,17 @@ ghost use Rattle.theory.specs.Reading.{Read};
 ghost use Rattle.theory.specs.Radial.{Rules};
 ghost use Rattle.buffer.specs.Buffer.{networkIn};
 ghost use Rattle.model.specs.Rules.{radial, accepted};
-ghost use Rattle.model.specs.Calls.{checked, checkSays, impactAnswered, impactSays, totalled, totalSays, searchAnswered, searchLeaves, searchSays};
+ghost use Rattle.model.specs.Calls.{checked, checkSays, impactAnswered, impactSays, totalled, totalSays, searchAnswered, searchLeaves, searchSays, reportAnswered, reportLeaves, reportSays};
 ghost use Rattle.model.specs.Demand.{Demand3};
 ghost use Rattle.theory.specs.Best.{Accepted};
 ghost use Rattle.outage.specs.Held.{HoldsImpacts};
 ghost use Rattle.model.specs.Walk.{search};
+ghost use Rattle.model.specs.Text.{reportText};
 ghost use Rattle.search.specs.Walking.{foundIn, HoldsBounds, Alone};
 ghost use Rattle.engine.specs.Loading.{forest, before, loaded, Prepared, fileFound, foundBy, AtMost16};
 use model::CheckAnswer;
 use model::ImpactAnswer;
+use model::ReportAnswer;
 use model::SearchAnswer;
 use model::TotalAnswer;
 use reader::ReadAnswer;
@@ -372,6 +374,71 @@ pub fn search(file: &[u8], members: &mut [u64]) -> SearchAnswer
         SearchAnswer::Spent { members: count, .. } => put_members(&best, count, members),
     }
     answer
+}
+
+// Writes the report of an accepted network at the start of a buffer; answers its length.
+fn report_network(
+    net: &[u64; 5129],
+    heads: &[u64; 512],
+    nexts: &[u64; 1536],
+    near: &[u64; 768],
+    feed: &[u64; 768],
+    order: &[u64; 768],
+    text: &mut [u8],
+) -> usize
+    requires { ⌜ Accepted (networkIn (now net)) × Prepared (networkIn (now net)) (now heads) (now nexts) (now near) (now feed) (now order) × (32768 ≤ length (now text)) ⌝ }
+    ensures { λ r. ⌜ (r ≡ length (reportText (networkIn (now (net .entry))))) × (now (text .exit) ≡ reportText (networkIn (now (net .entry))) ++ drop (length (reportText (networkIn (now (net .entry))))) (now (text .entry))) ⌝ }
+{
+    let mut customers = lines_space();
+    impacts(net, heads, nexts, near, feed, order, &mut customers);
+    let total = outage::total_of(net, &customers).number();
+    let mut best = [0u64; 16];
+    let found = walk(net, heads, nexts, near, feed, order, &mut best);
+    report::write_report(
+        net,
+        &customers,
+        total,
+        &best,
+        found.count,
+        found.best,
+        found.visits,
+        found.spent,
+        text,
+    )
+}
+
+// Report: the totals, the impact of a fault on each line and what the search found, as text at the start of `text`.
+pub fn report(file: &[u8], text: &mut [u8]) -> ReportAnswer
+    ensures { λ r. ⌜ reportSays r ≡ reportAnswered (now (file .entry)) (now (text .entry)) ⌝ }
+    ensures { λ r. ⌜ now (text .exit) ≡ reportLeaves (now (file .entry)) (now (text .entry)) ⌝ }
+{
+    if text.len() < 32768 {
+        return ReportAnswer::Refused {
+            number: 10,
+            record: 0,
+        };
+    }
+    let mut net = net_space();
+    let mut heads = stations_space();
+    let mut nexts = nexts_space();
+    let mut near = lines_space();
+    let mut feed = lines_space();
+    let mut order = lines_space();
+    match load(
+        file,
+        &mut net,
+        &mut heads,
+        &mut nexts,
+        &mut near,
+        &mut feed,
+        &mut order,
+    ) {
+        CheckAnswer::Refused { number, record } => ReportAnswer::Refused { number, record },
+        CheckAnswer::Accepted => {
+            let length = report_network(&net, &heads, &nexts, &near, &feed, &order, text);
+            ReportAnswer::Written(length)
+        }
+    }
 }
 
 // Room for a network.

@@ -8,22 +8,18 @@ use Rattle.buffer.proofs.places.Reads as places-reads
 use Rattle.search.proofs.bound_table.Reads as bound-table-reads
 use Rattle.search.proofs.savings_of.Reads as savings-of-reads
 
--- src/lib.rt:239:5
 savings-of-requires : tie.Need-savings-of-requires
 savings-of-requires c κs = search needs
 
--- src/lib.rt:249:35
 places-requires : tie.Need-places-requires
 places-requires c κs = search needs
 
--- src/lib.rt:249:5
 bound-table-requires : tie.Need-bound-table-requires
 bound-table-requires c κs =
     let d = c .before .before .before .before .before .before .before in
     let s = c .before .before .before .savings-of in
     (d .pre .1, savings-held (d .pre .0) (s .last .1 .1 .1 .1 .1 .1 .1 .0) (c .before .places .result) (c .before .places .ensures) (s .ensures .0) (s .ensures .1))
 
--- src/lib.rt:225:1
 returns : tie.Need-returns
 returns c =
     let d = c .before .before .before .before .before .before .before .before in

@@ -4,11 +4,9 @@ use Rattle.engine.proofs.found_answer.Tie as tie
 use Rattle.engine.proofs.found_answer.Reads as reads
 use Rattle.engine.proofs.found_answer.Lts as lts
 
--- src/lib.rt:323:9
 returns : tie.Need-returns
 returns c = answer-spent (c .before .args .found) (c .before .pre) (c .if1 .taken)
 
--- src/lib.rt:318:1
 returns-2 : tie.Need-returns-2
 returns-2 c = answer-finished (c .before .args .found) (c .before .pre) (c .if1 .left)
 

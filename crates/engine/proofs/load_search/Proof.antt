@@ -13,61 +13,48 @@ use Rattle.engine.proofs.net_space.Reads as net-space-reads
 use Rattle.engine.proofs.nexts_space.Reads as nexts-space-reads
 use Rattle.engine.proofs.walk.Reads as walk-reads
 
--- src/lib.rt:341:19
 net-space-requires : tie.Need-net-space-requires
 net-space-requires c κs = search needs
 
--- src/lib.rt:342:21
 stations-space-requires : tie.Need-stations-space-requires
 stations-space-requires c κs = search needs
 
--- src/lib.rt:343:21
 nexts-space-requires : tie.Need-nexts-space-requires
 nexts-space-requires c κs = search needs
 
--- src/lib.rt:344:20
 lines-space-requires : tie.Need-lines-space-requires
 lines-space-requires c κs = search needs
 
--- src/lib.rt:345:20
 lines-space-requires-2 : tie.Need-lines-space-requires-2
 lines-space-requires-2 c κs = search needs
 
--- src/lib.rt:346:21
 lines-space-requires-3 : tie.Need-lines-space-requires-3
 lines-space-requires-3 c κs = search needs
 
--- src/lib.rt:347:11
 load-requires : tie.Need-load-requires
 load-requires c κs = search needs
 
--- src/lib.rt:356:32
 enum-known-number : tie.Need-enum-known-number
 enum-known-number c = search needs
 
--- src/lib.rt:358:30
 enum-told : tie.Need-enum-told
 enum-told c = search needs
 
--- src/lib.rt:358:17
 walk-requires : tie.Need-walk-requires
 walk-requires c κs =
     let d = c .before .before .before .before .before .before .before .before .before in
     let e = c .before .before .before .before .before .before .before .enum-told .given .1 in
     (accepted-holds (d .before .before .before .before .before .before .before .before .before .before .before .before .before .before .args .file .now) (d .load .last .1 .0) (d .load .result) (d .load .ensures .0) e, d .load .ensures .1 e)
 
--- src/lib.rt:359:13
 found-answer-requires : tie.Need-found-answer-requires
 found-answer-requires c κs = search needs
 
--- src/lib.rt:337:1
 returns : tie.Need-returns
 returns c =
     let d = c .before .before .before in
     let f = found-refused (d .before .before .before .before .before .before .before .before .before .before .before .before .before .before .args .file .now) (d .load .last .1 .0) (d .load .result) (d .load .ensures .0) (d .before .before .before .before .before .before .before .before .before .before .before .before .before .before .args .best .now) (c .before .number .given .1) in
     (f .0, f .1, d .before .before .before .before .before .before .before .before .before .before .before .before .before .before .pre)
 
--- src/lib.rt:337:1
 returns-2 : tie.Need-returns-2
 returns-2 c =
     let d = c .before .before .before .before .before .before .before .before .before .before .before in

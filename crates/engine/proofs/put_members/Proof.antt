@@ -15,46 +15,36 @@ Inv-loop list count members₀ i₀ members i = (i ≤ count) × Put list member
 abbrev μ-loop : tie.MeasureT-loop
 μ-loop list count members₀ i₀ members i = count - i
 
--- src/lib.rt:266:5
 loop-holds : tie.Need-loop-holds Inv-loop μ-loop
 loop-holds c = (omega arith, put-none (c .args .list .now) (c .args .members .now))
 
--- src/lib.rt:267:22
 mul-members : tie.Need-mul-members Inv-loop μ-loop
 mul-members c = omega arith
 
--- src/lib.rt:267:22
 element-copy-out-members : tie.Need-element-copy-out-members Inv-loop μ-loop
 element-copy-out-members c = omega arith
 
--- src/lib.rt:267:9
 mul-members-2 : tie.Need-mul-members-2 Inv-loop μ-loop
 mul-members-2 c = omega arith
 
--- src/lib.rt:267:9
 slice-write-members : tie.Need-slice-write-members Inv-loop μ-loop
 slice-write-members c = let l = c .before .before .loop in omega (arith, l .inv .1 .long)
 
--- src/lib.rt:266:9
 add-i : tie.Need-add-i Inv-loop μ-loop
 add-i c = omega arith
 
--- src/lib.rt:266:5
 loop-less : tie.Need-loop-less Inv-loop μ-loop
 loop-less c = omega arith
 
--- src/lib.rt:266:5
 loop-again : tie.Need-loop-again Inv-loop μ-loop
 loop-again c =
     let d = c .before .before .before in
     let l = c .before .before .loop in
     (omega arith, put-more (d .args .list .now) (d .args .members .now) (l .i) (l .members) (omega arith) (omega arith) (l .inv .1))
 
--- src/lib.rt:262:1
 same-length : tie.Need-same-length Inv-loop μ-loop
 same-length c = c .before .loop .inv .1 .long
 
--- src/lib.rt:262:1
 returns : tie.Need-returns Inv-loop μ-loop
 returns c =
     let d = c .before .before in

@@ -10,40 +10,33 @@ use Rattle.engine.proofs.search.Lts as lts
 use Rattle.engine.proofs.load_search.Reads as load-search-reads
 use Rattle.engine.proofs.put_members.Reads as put-members-reads
 
--- src/lib.rt:362:9
 returns : tie.Need-returns
 returns c = short-refused (c .before .before .before .args .file .now) (c .before .before .before .args .members .now) (c .if1 .taken)
 
--- src/lib.rt:368:9
 load-search-requires : tie.Need-load-search-requires
 load-search-requires c κs = search needs
 
 enum-told : tie.Need-enum-told
 enum-told c = search needs
 
--- src/lib.rt:371:43
 enum-known-answer : tie.Need-enum-known-answer
 enum-known-answer c = search needs
 
--- src/lib.rt:371:58
 put-members-requires : tie.Need-put-members-requires
 unfolding AtMost16
 put-members-requires c κs =
     let l = c .before .before .before .before .before in
     (l .load-search .ensures .2, subst AtMost16 (c .before .before .before .answer .given .1) (l .load-search .ensures .1), l .before .before .if1 .left)
 
--- src/lib.rt:372:40
 enum-known-answer-2 : tie.Need-enum-known-answer-2
 enum-known-answer-2 c = search needs
 
--- src/lib.rt:372:55
 put-members-requires-2 : tie.Need-put-members-requires-2
 unfolding AtMost16
 put-members-requires-2 c κs =
     let l = c .before .before .before .before .before in
     (l .load-search .ensures .2, subst AtMost16 (c .before .before .before .answer2 .given .1) (l .load-search .ensures .1), l .before .before .if1 .left)
 
--- src/lib.rt:356:1
 returns-2 : tie.Need-returns-2
 returns-2 c =
     let l = c .before .before in
@@ -52,11 +45,9 @@ returns-2 c =
     subst (λ r. Claims (a .file .now) (a .members .now) r (a .members .now)) (sym e)
     (file-refused (a .file .now) (a .members .now) (l .before .before .if1 .left) _ _ (l .load-search .last .1 .0) (subst (λ r. foundBy r (l .load-search .last .1 .0) ≡ fileFound (a .file .now)) e (l .load-search .ensures .0)))
 
--- src/lib.rt:356:1
 same-length : tie.Need-same-length
 same-length c = search needs
 
--- src/lib.rt:356:1
 returns-3 : tie.Need-returns-3
 returns-3 c =
     let l = c .before .before .before .before .before .before .before .before in
@@ -66,11 +57,9 @@ returns-3 c =
     file-finished (a .file .now) (a .members .now) (l .before .before .if1 .left) (g .0 .0) (g .0 .1 .0) (g .0 .1 .1 .0) best _
     (subst AtMost16 (g .1) (l .load-search .ensures .1)) (l .load-search .ensures .2) (c .before .before .put-members .ensures) (subst (λ r. foundBy r best ≡ fileFound (a .file .now)) (g .1) (l .load-search .ensures .0))
 
--- src/lib.rt:356:1
 same-length-2 : tie.Need-same-length-2
 same-length-2 c = search needs
 
--- src/lib.rt:356:1
 returns-4 : tie.Need-returns-4
 returns-4 c =
     let l = c .before .before .before .before .before .before .before .before in

@@ -11,34 +11,27 @@ use Rattle.engine.proofs.lines_space.Reads as lines-space-reads
 use Rattle.outage.proofs.customers_behind.Reads as customers-behind-reads
 use Rattle.search.proofs.walk.Reads as walk-reads
 
--- src/lib.rt:284:20
 lines-space-requires : tie.Need-lines-space-requires
 lines-space-requires c κs = search needs
 
--- src/lib.rt:285:5
 customers-behind-requires : tie.Need-customers-behind-requires
 customers-behind-requires c κs = search needs
 
--- src/lib.rt:286:5
 full-length-requires : tie.Need-full-length-requires
 full-length-requires c κs = search needs
 
--- src/lib.rt:288:23
 lines-space-requires-2 : tie.Need-lines-space-requires-2
 lines-space-requires-2 c κs = search needs
 
--- src/lib.rt:290:5
 bound-table-requires : tie.Need-bound-table-requires
 bound-table-requires c κs = search needs
 
--- src/lib.rt:302:5
 walk-requires : tie.Need-walk-requires
 walk-requires c κs =
     let d = c .before .before .before .before .before .before .before .before .before .before .before .before .before .before .before .before .before .before .before in
     let t = c .before .before .before .before .before .before .before .bound-table in
     starting-held (d .pre .0) (d .pre .1) (c .before .before .before .before .before .before .before .before .before .before .before .before .before .before .before .before .customers-behind .ensures) (t .last .1 .0) (t .last .1 .1 .1 .1 .1 .1 .1 .0) _ _ (t .ensures .1) (c .before .before .before .before .before .before .before .before .before .before .before .before .before .before .full-length .ensures) (t .ensures .0) refl refl
 
--- src/lib.rt:272:1
 returns : tie.Need-returns
 returns c = search needs
 

@@ -1,0 +1,50 @@
+-- What Report answers and leaves in the lent buffer.
+use Prim.Native.Nat.{ℕ, _≤_, _<_}
+use mathlib.Core.Path.{_≡_, sym, ap, _∙_}
+use mathlib.Core.Bool.{true, false}
+use mathlib.Core.List.{List, _++_}
+use lib.ListN.{length, drop}
+use borrow.Author.Tests.{lt-ltb, le-ltb}
+use Rattle.model.specs.Answer.{Answer, given, refused, _>>=_, refuseBuffer}
+use Rattle.model.specs.Network.{Network}
+use Rattle.model.specs.Text.{reportText}
+use Rattle.model.specs.Rules.{accepted}
+use Rattle.model.specs.Calls.{lent, written, reported, reportAnswered, reportLeaves, reportSays}
+use Rattle.model.specs.declared.CheckAnswer.{CheckAnswer}
+use Rattle.model.specs.declared.ReportAnswer.{ReportAnswer}
+use Rattle.buffer.specs.Buffer.{networkIn}
+use Rattle.engine.specs.Loading.{before, loaded}
+use Rattle.engine.proofs.Loads.{answered, same-answer}
+
+module _ (file buffer : List ℕ) where
+  -- the two claims of an answer and the buffer that it leaves
+  abbrev pub Claims : ReportAnswer → List ℕ → Type 0
+  Claims a after = (reportSays a ≡ reportAnswered file buffer) × (after ≡ reportLeaves file buffer)
+
+  -- the report of the file, or its refusal
+  abbrev fileText : Answer (List ℕ)
+  fileText = accepted file >>= λ N. given (reportText N)
+
+  from-refused : (n i : ℕ) → refused n i ≡ reported file buffer → Claims (ReportAnswer.Refused n i) buffer
+  unfolding reportSays reportAnswered reportLeaves written
+  from-refused n i e = (ap (λ x. x >>= λ text. given (length text)) e, ap (λ x. written x buffer) e)
+
+  pub short-refused : length buffer < 32768 → Claims (ReportAnswer.Refused 10 0) buffer
+  unfolding reported lent
+  short-refused h = from-refused 10 0 (sym (ap (λ b. elim b as (λ x. Answer (List ℕ)) [ true ↦ refuseBuffer | false ↦ fileText ]) (lt-ltb (length buffer) 32768 h)))
+
+  module _ (h : 32768 ≤ length buffer) (b : List ℕ) (r : CheckAnswer) (l : loaded r b ≡ accepted file) where
+    reported-is : fileText ≡ reported file buffer
+    unfolding reported lent
+    reported-is = sym (ap (λ b. elim b as (λ x. Answer (List ℕ)) [ true ↦ refuseBuffer | false ↦ fileText ]) (le-ltb (length buffer) 32768 h))
+
+    pub file-refused : {n i : ℕ} → r ≡ CheckAnswer.Refused n i → Claims (ReportAnswer.Refused n i) buffer
+    unfolding before
+    file-refused e = from-refused _ _ (answered file b (λ N. given (reportText N)) (CheckAnswer.Refused _ _) (same-answer file b r l e) ∙ reported-is)
+
+    pub file-reported : (n : ℕ) (after : List ℕ) → r ≡ CheckAnswer.Accepted → n ≡ length (reportText (networkIn b))
+        → after ≡ reportText (networkIn b) ++ drop (length (reportText (networkIn b))) buffer → Claims (ReportAnswer.Written n) after
+    unfolding before reportSays reportAnswered reportLeaves written
+    file-reported n after e p q =
+        let t : given (reportText (networkIn b)) ≡ reported file buffer = answered file b (λ N. given (reportText N)) CheckAnswer.Accepted (same-answer file b r l e) ∙ reported-is in
+        (ap (λ x. given x) p ∙ ap (λ x. x >>= λ text. given (length text)) t, q ∙ ap (λ x. written x buffer) t)

@@ -1,0 +1,61 @@
+use mathlib.Core.Path.{_∙_}
+use borrow.Author.Needs.{needs}
+use Rattle.engine.proofs.report_network.Statement.{statement}
+use Rattle.engine.proofs.report_network.Tie as tie
+use Rattle.engine.proofs.report_network.Reads as reads
+use Rattle.engine.proofs.report_network.Lts as lts
+use Rattle.amounts.proofs.Total.number.Reads as number-reads
+use Rattle.engine.proofs.impacts.Reads as impacts-reads
+use Rattle.engine.proofs.lines_space.Reads as lines-space-reads
+use Rattle.engine.proofs.walk.Reads as walk-reads
+use Rattle.outage.proofs.total_of.Reads as total-of-reads
+use Rattle.report.proofs.write_report.Reads as write-report-reads
+
+lines-space-requires : tie.Need-lines-space-requires
+lines-space-requires c κs = search needs
+
+impacts-requires : tie.Need-impacts-requires
+impacts-requires c κs = search needs
+
+total-of-requires : tie.Need-total-of-requires
+total-of-requires c κs = search needs
+
+number-requires : tie.Need-number-requires
+number-requires c κs = search needs
+
+walk-requires : tie.Need-walk-requires
+walk-requires c κs = search needs
+
+write-report-requires : tie.Need-write-report-requires
+write-report-requires c κs =
+    let w = c .before .before .before .walk in
+    let t = c .before .before .before .before .before .before in
+    let a = c .before .before .before .before .before .before .before .before .before .before .before .before in (
+      record {
+        accepted = a .pre .0;
+        holds = t .before .before .impacts .ensures;
+        isTotal = c .before .before .before .before .before .number .ensures ∙ t .total-of .ensures;
+        few = w .ensures .2;
+        found = w .ensures .0;
+      },
+      a .pre .2,
+    )
+
+same-length : tie.Need-same-length
+same-length c = search needs
+
+returns : tie.Need-returns
+returns c = search needs
+
+pub report-network-spec : {M : Type 1} → statement M
+report-network-spec =
+    tie.close
+    (tie.spec
+    lines-space-requires
+    impacts-requires
+    total-of-requires
+    number-requires
+    walk-requires
+    write-report-requires
+    same-length
+    returns)
