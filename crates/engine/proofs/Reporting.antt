@@ -22,7 +22,7 @@ module _ (file buffer : List ℕ) where
   Claims a after = (reportSays a ≡ reportAnswered file buffer) × (after ≡ reportLeaves file buffer)
 
   -- the report of the file, or its refusal
-  abbrev fileText : Answer (List ℕ)
+  abbrev pub fileText : Answer (List ℕ)
   fileText = accepted file >>= λ N. given (reportText N)
 
   from-refused : (n i : ℕ) → refused n i ≡ reported file buffer → Claims (ReportAnswer.Refused n i) buffer
@@ -33,18 +33,18 @@ module _ (file buffer : List ℕ) where
   unfolding reported lent
   short-refused h = from-refused 10 0 (sym (ap (λ b. elim b as (λ x. Answer (List ℕ)) [ true ↦ refuseBuffer | false ↦ fileText ]) (lt-ltb (length buffer) 32768 h)))
 
-  module _ (h : 32768 ≤ length buffer) (b : List ℕ) (r : CheckAnswer) (l : loaded r b ≡ accepted file) where
-    reported-is : fileText ≡ reported file buffer
-    unfolding reported lent
-    reported-is = sym (ap (λ b. elim b as (λ x. Answer (List ℕ)) [ true ↦ refuseBuffer | false ↦ fileText ]) (le-ltb (length buffer) 32768 h))
+  pub reported-is : 32768 ≤ length buffer → fileText ≡ reported file buffer
+  unfolding reported lent
+  reported-is h = sym (ap (λ b. elim b as (λ x. Answer (List ℕ)) [ true ↦ refuseBuffer | false ↦ fileText ]) (le-ltb (length buffer) 32768 h))
 
+  module _ (h : 32768 ≤ length buffer) (b : List ℕ) (r : CheckAnswer) (l : loaded r b ≡ accepted file) where
     pub file-refused : {n i : ℕ} → r ≡ CheckAnswer.Refused n i → Claims (ReportAnswer.Refused n i) buffer
     unfolding before
-    file-refused e = from-refused _ _ (answered file b (λ N. given (reportText N)) (CheckAnswer.Refused _ _) (same-answer file b r l e) ∙ reported-is)
+    file-refused e = from-refused _ _ (answered file b (λ N. given (reportText N)) (CheckAnswer.Refused _ _) (same-answer file b r l e) ∙ reported-is h)
 
     pub file-reported : (n : ℕ) (after : List ℕ) → r ≡ CheckAnswer.Accepted → n ≡ length (reportText (networkIn b))
         → after ≡ reportText (networkIn b) ++ drop (length (reportText (networkIn b))) buffer → Claims (ReportAnswer.Written n) after
     unfolding before reportSays reportAnswered reportLeaves written
     file-reported n after e p q =
-        let t : given (reportText (networkIn b)) ≡ reported file buffer = answered file b (λ N. given (reportText N)) CheckAnswer.Accepted (same-answer file b r l e) ∙ reported-is in
+        let t : given (reportText (networkIn b)) ≡ reported file buffer = answered file b (λ N. given (reportText N)) CheckAnswer.Accepted (same-answer file b r l e) ∙ reported-is h in
         (ap (λ x. given x) p ∙ ap (λ x. x >>= λ text. given (length text)) t, q ∙ ap (λ x. written x buffer) t)
