@@ -176,10 +176,32 @@ def answer(call, data):
         return f"{net.total()},{net.head['minutes'] * net.total()}\n"
     if call == "impact":  # of 0, of the largest number, of each line, of the number after the last line
         return 2 * "X,2,0\n" + "".join(f"{net.impact(l + 1)}\n" for l in range(len(net.lines))) + "X,2,0\n"
-    if call == "search":
-        done, visits, best, total = net.search()
-        return ",".join(map(str, [done, len(best), total, visits, *best])) + "\n"
     return net.report()
+
+
+def search(data, lent):
+    """What Search answers with a buffer of so many numbers, each 99, and the buffer after it."""
+    members = lent * [99]
+    try:
+        if lent < 16:
+            raise Refused(10, 0)
+        done, visits, best, total = Network(data).search()
+        members[:len(best)] = best
+        line = f"{done},{len(best)},{total},{visits}"
+    except Refused as why:
+        line = "X,%d,%d" % why.args
+    return line + "\n" + "".join(f"{x} " for x in members) + "\n"
+
+
+def report(data, lent):
+    """What Report answers with a buffer of so many bytes, each '#', the text, and how many bytes are still '#'."""
+    try:
+        if lent < 32768:
+            raise Refused(10, 0)
+        text = Network(data).report()
+        return f"{len(text)}\n{text}{lent - len(text)}\n"
+    except Refused as why:
+        return "X,%d,%d\n" % why.args + f"{lent}\n"
 
 
 def main():
@@ -187,7 +209,12 @@ def main():
     for data in sys.stdin.buffer.read().split(b"=\n")[:-1]:
         for call in calls:
             try:
-                sys.stdout.write(answer(call, data))
+                if call == "search":
+                    sys.stdout.write("".join(search(data, lent) for lent in (15, 16, 20)))
+                elif call == "report":
+                    sys.stdout.write("".join(report(data, lent) for lent in (32767, 32768, 40000)))
+                else:
+                    sys.stdout.write(answer(call, data))
             except Refused as why:
                 sys.stdout.write("X,%d,%d\n" % why.args)
 
