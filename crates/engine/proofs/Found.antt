@@ -15,14 +15,18 @@ use Rattle.search.specs.declared.Progress.{Progress}
 use Rattle.engine.specs.Loading.{before, loaded, fileFound, foundBy, AtMost16}
 use Rattle.engine.proofs.Loads.{answered, same-answer}
 
-module _ (p : Progress) (few : p .count ≤ 16) where
-  pub answer-spent : p .spent ≡ true → ((best : List ℕ) → foundBy (SearchAnswer.Spent (p .count) (p .best) (p .visits)) best ≡ given (foundIn p best)) × AtMost16 (SearchAnswer.Spent (p .count) (p .best) (p .visits))
-  unfolding foundBy AtMost16
-  answer-spent e = (λ best. λ i. given (record { members = take (p .count) best; best = p .best; visits = p .visits; spent = sym e i }), few)
+-- what was found, with its total as a number
+pub found-is : (p : Progress) (best : List ℕ) {total : ℕ} → total ≡ p .best .0 → _≡_ {A = Found} (record { members = take (p .count) best; best = total; visits = p .visits; spent = p .spent }) (foundIn p best)
+found-is p best t = λ i. record { members = take (p .count) best; best = t i; visits = p .visits; spent = p .spent }
 
-  pub answer-finished : p .spent ≡ false → ((best : List ℕ) → foundBy (SearchAnswer.Finished (p .count) (p .best) (p .visits)) best ≡ given (foundIn p best)) × AtMost16 (SearchAnswer.Finished (p .count) (p .best) (p .visits))
+module _ (p : Progress) (few : p .count ≤ 16) {total : ℕ} (t : total ≡ p .best .0) where
+  pub answer-spent : p .spent ≡ true → ((best : List ℕ) → foundBy (SearchAnswer.Spent (p .count) total (p .visits)) best ≡ given (foundIn p best)) × AtMost16 (SearchAnswer.Spent (p .count) total (p .visits))
   unfolding foundBy AtMost16
-  answer-finished e = (λ best. λ i. given (record { members = take (p .count) best; best = p .best; visits = p .visits; spent = sym e i }), few)
+  answer-spent e = (λ best. λ i. given (record { members = take (p .count) best; best = t i; visits = p .visits; spent = sym e i }), few)
+
+  pub answer-finished : p .spent ≡ false → ((best : List ℕ) → foundBy (SearchAnswer.Finished (p .count) total (p .visits)) best ≡ given (foundIn p best)) × AtMost16 (SearchAnswer.Finished (p .count) total (p .visits))
+  unfolding foundBy AtMost16
+  answer-finished e = (λ best. λ i. given (record { members = take (p .count) best; best = t i; visits = p .visits; spent = sym e i }), few)
 
 module _ (file b : List ℕ) (r : CheckAnswer) (h : loaded r b ≡ accepted file) where
   pub found-refused : {n i : ℕ} (best : List ℕ) → r ≡ CheckAnswer.Refused n i → (foundBy (SearchAnswer.Refused n i) best ≡ fileFound file) × AtMost16 (SearchAnswer.Refused n i)

@@ -312,16 +312,17 @@ fn found_answer(found: Progress) -> SearchAnswer
     requires { ⌜ found .count ≤ 16 ⌝ }
     ensures { λ r. ⌜ ((best : List ℕ) → foundBy r best ≡ given (foundIn found best)) × AtMost16 r ⌝ }
 {
+    let total = found.best.number();
     if found.spent {
         return SearchAnswer::Spent {
             members: found.count,
-            total: found.best,
+            total,
             visits: found.visits,
         };
     }
     SearchAnswer::Finished {
         members: found.count,
-        total: found.best,
+        total,
         visits: found.visits,
     }
 }
@@ -400,7 +401,7 @@ fn report_network(
         total,
         &best,
         found.count,
-        found.best,
+        found.best.number(),
         found.visits,
         found.spent,
         text,

@@ -149,9 +149,9 @@ module _ {net work near feed order sums bounds set₀ : List ℕ} {at : Current}
       pub bound-size : getD bounds (left * 65 + place - 1) 0 ≤ 16 * 7864320000000000
       bound-size = omega (arith, bound-is, few, largest-size N (read-sized N (x .tables .accepted .read)) left (placesFrom N place))
 
-      hopeless-is : hopeless (N .head .visits) (λ T. setTotal N T) (λ T. allowed N T) (λ p. saving N p) (suc (left - 1)) S (place ∷ placesFrom N (place + 1)) f ≡ leb (p .best + getD bounds (left * 65 + place - 1) 0) (at .total)
+      hopeless-is : hopeless (N .head .visits) (λ T. setTotal N T) (λ T. allowed N T) (λ p. saving N p) (suc (left - 1)) S (place ∷ placesFrom N (place + 1)) f ≡ leb (p .best .0 + getD bounds (left * 65 + place - 1) 0) (at .total .0)
       unfolding hopeless numbers
-      hopeless-is = λ i. leb (p .best + sym (bound-is ∙ (λ j. largest (r j) (map (λ p. saving N p) (numbers place (n j))))) i) (sym (x .standing .total) i)
+      hopeless-is = λ i. leb (p .best .0 + sym (bound-is ∙ (λ j. largest (r j) (map (λ p. saving N p) (numbers place (n j))))) i) (sym (x .standing .total) i)
         where
           r : left ≡ suc (left - 1)
           r = omega arith
@@ -160,18 +160,18 @@ module _ {net work near feed order sums bounds set₀ : List ℕ} {at : Current}
           n = omega (arith, g .all)
 
       module _ (u : p .spent ≡ false) where
-        pub stopped-hopeless : p .best + getD bounds (left * 65 + place - 1) 0 ≤ at .total → Left N (extended N left S from f₀) (at .size) p work work' set₀ set' best
+        pub stopped-hopeless : p .best .0 + getD bounds (left * 65 + place - 1) 0 ≤ at .total .0 → Left N (extended N left S from f₀) (at .size) p work work' set₀ set' best
         stopped-hopeless e =
             stopped (sym (split f ∙ extend-hopeless (N .head .visits) (λ T. setTotal N T) (λ T. allowed N T) (λ p. saving N p) (left - 1) S place (placesFrom N (place + 1)) f u
-            (hopeless-is ∙ le-leb (p .best + getD bounds (left * 65 + place - 1) 0) (at .total) e)))
+            (hopeless-is ∙ le-leb (p .best .0 + getD bounds (left * 65 + place - 1) 0) (at .total .0) e)))
 
         -- the place is tried, and the walk goes on with the next
-        split-tried : at .total < p .best + getD bounds (left * 65 + place - 1) 0 → extended N left S place f ≡ extended N left S (place + 1) (tried N (left - 1) S place f)
+        split-tried : at .total .0 < p .best .0 + getD bounds (left * 65 + place - 1) 0 → extended N left S place f ≡ extended N left S (place + 1) (tried N (left - 1) S place f)
         unfolding tried
         split-tried e = split f ∙ go (allowed N (S ++ (place ∷ []))) refl ∙ ap (λ k. walked k (placesFrom N (place + 1)) (tried N (left - 1) S place f)) {x = suc (left - 1)} {y = left} (omega arith)
           where
             hope : hopeless (N .head .visits) (λ T. setTotal N T) (λ T. allowed N T) (λ p. saving N p) (suc (left - 1)) S (place ∷ placesFrom N (place + 1)) f ≡ false
-            hope = hopeless-is ∙ lt-leb (p .best + getD bounds (left * 65 + place - 1) 0) (at .total) e
+            hope = hopeless-is ∙ lt-leb (p .best .0 + getD bounds (left * 65 + place - 1) 0) (at .total .0) e
 
             go : (b : Bool) → allowed N (S ++ (place ∷ [])) ≡ b → walked (suc (left - 1)) (place ∷ placesFrom N (place + 1)) f ≡ walked (suc (left - 1)) (placesFrom N (place + 1)) (tried N (left - 1) S place f)
             go true a =
@@ -200,7 +200,7 @@ module _ {net work near feed order sums bounds set₀ : List ℕ} {at : Current}
           few = omega (arith, x .few);
         }
 
-        pub going-on : (q : Progress) (work₂ set₂ best₂ : List ℕ) → at .total < p .best + getD bounds (left * 65 + place - 1) 0
+        pub going-on : (q : Progress) (work₂ set₂ best₂ : List ℕ) → at .total .0 < p .best .0 + getD bounds (left * 65 + place - 1) 0
             → Left N (tried N (left - 1) (take (at .size) set') place f) (at .size) q work' work₂ set' set₂ best₂
             → Going net work set₀ at from left f₀ (place + 1) end q work₂ set₂ best₂
         going-on q work₂ set₂ best₂ e t = record {

@@ -10,20 +10,21 @@ use Rattle.model.specs.Network.{Network}
 use Rattle.model.specs.Outage.{total}
 use Rattle.model.specs.Sets.{placeNumbers, withBreakers, allowed, setTotal, saving}
 use Rattle.model.specs.Walk.{Found, start, extend, walk, search}
+use Rattle.amounts.specs.declared.Total.{Total}
 use Rattle.theory.specs.Sizes.{read-sized, setTotal-size}
 use Rattle.buffer.specs.Buffer.{networkIn}
 use Rattle.search.specs.Walking.{foundIn, visited, extended, Counted, Extending, Starting}
 use Rattle.search.specs.declared.Progress.{Progress}
 use Rattle.search.proofs.Heads.{adds-at}
 
-module _ {net work near feed order sums bounds set₀ best : List ℕ} (x : Starting net work near feed order sums bounds set₀ best) {t : ℕ} (e : t ≡ total (networkIn work)) where
+module _ {net work near feed order sums bounds set₀ best : List ℕ} (x : Starting net work near feed order sums bounds set₀ best) {t : Total} (e : t .0 ≡ total (networkIn work)) where
   abbrev N : Network
   N = networkIn net
 
   abbrev first : Progress
   first = record { best = t; count = 0; visits = 0; spent = false }
 
-  pub total-none : t ≡ setTotal N []
+  pub total-none : t .0 ≡ setTotal N []
   unfolding setTotal withBreakers
   total-none = e ∙ ap total (x .alone .working)
 

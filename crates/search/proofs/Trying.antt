@@ -15,6 +15,7 @@ use Rattle.model.specs.Rules.{seriesBroken}
 use Rattle.model.specs.Outage.{total}
 use Rattle.model.specs.Sets.{placeAt, withBreakers, allowed, setTotal}
 use Rattle.model.specs.Walk.{Found}
+use Rattle.amounts.specs.declared.Total.{Total}
 use Rattle.savings.specs.Facts.{both}
 use Rattle.savings.specs.Allowed.{sum-append}
 use Rattle.walks.specs.Runs.{on-true, on-false}
@@ -113,7 +114,7 @@ module _ {net work near feed order sums bounds set₀ : List ℕ} {at : Current}
       tried-allowed f b = sym (on-true _ _ (allowed-is ∙ (λ i. a i && not ((sym (ap seriesBroken (working-with entering e)) ∙ b) i))))
 
       -- where the walk then stands
-      standing-with : {t : ℕ} → t ≡ total (networkIn w) → Standing N w set⁺ (record { size = at .size + 1; total = t; cost = at .cost + cost; hours = at .hours + hours })
+      standing-with : {t : Total} → t .0 ≡ total (networkIn w) → Standing N w set⁺ (record { size = at .size + 1; total = t; cost = at .cost + cost; hours = at .hours + hours })
       standing-with {t} d =
           let b = both (leb (at .cost + cost) (N .head .money)) (leb (at .hours + hours) (N .head .hours)) a in
           record {
@@ -128,7 +129,7 @@ module _ {net work near feed order sums bounds set₀ : List ℕ} {at : Current}
             timely = leb-true (at .hours + hours) (N .head .hours) (b .1);
           }
 
-      pub extending-with : {t : ℕ} → t ≡ total (networkIn w)
+      pub extending-with : {t : Total} → t .0 ≡ total (networkIn w)
           → Extending net w near feed order sums bounds set⁺ (record { size = at .size + 1; total = t; cost = at .cost + cost; hours = at .hours + hours }) (q + 1) left
       extending-with d = record { tables = x .tables; table = x .table; standing = standing-with d; low = omega arith; high = omega (arith, x .there .high); few = x .few }
 

@@ -22,7 +22,7 @@ use Rattle.search.specs.declared.Current.{Current}
 
 -- what a walk has found: the best set's places are the first numbers of an array
 abbrev pub foundIn : Progress → List ℕ → Found
-foundIn p best = record { members = take (p .count) best; best = p .best; visits = p .visits; spent = p .spent }
+foundIn p best = record { members = take (p .count) best; best = p .best .0; visits = p .visits; spent = p .spent }
 
 -- the defined visit and walk of a file
 abbrev pub visited : Network → List ℕ → Found → Found
@@ -43,7 +43,7 @@ tried N left S q f =
 
 -- the best total and the limit are such as a file can have, the best set has room, and the visits are within the limit
 pub record Counted (N : Network) (p : Progress) : Type 0 where
-  pub best : p .best ≤ 7864320000000000
+  pub best : p .best .0 ≤ 7864320000000000
   pub count : p .count ≤ 16
   pub visits : p .visits ≤ N .head .visits
   pub limit : N .head .visits ≤ 1000000000
@@ -79,7 +79,7 @@ pub record Standing (N : Network) (work set : List ℕ) (at : Current) : Type 0 
   pub setLong : length set ≡ 16
   pub valid : Valid N (take (at .size) set)
   pub working : networkIn work ≡ withBreakers N (take (at .size) set)
-  pub total : at .total ≡ setTotal N (take (at .size) set)
+  pub total : at .total .0 ≡ setTotal N (take (at .size) set)
   pub cost : at .cost ≡ sum (map (λ p. placeAt N p .cost) (take (at .size) set))
   pub hours : at .hours ≡ sum (map (λ p. placeAt N p .hours) (take (at .size) set))
   pub affordable : at .cost ≤ N .head .money

@@ -14,10 +14,11 @@ ghost use Rattle.buffer.specs.Fits.{EndThere, PlaceThere};
 ghost use Rattle.search.specs.Bounds.{Small, Savings, Column, Bounds};
 ghost use Rattle.search.specs.Placing.{stateIndex};
 ghost use Rattle.search.specs.Walking.{foundIn, visited, extended, tried, Counted, Ready, Entering, Trying, Extending, Left, Alone, Starting};
+use amounts::Total;
 
 // How far a walk has come: the best total, how many members the best set has, the visits, and whether the walk is spent.
 pub struct Progress {
-    pub best: u64,
+    pub best: Total,
     pub count: usize,
     pub visits: u64,
     pub spent: bool,
@@ -26,7 +27,7 @@ pub struct Progress {
 // The set that a walk stands at: how many members it has, its total, its cost and its hours.
 pub struct Current {
     pub size: usize,
-    pub total: u64,
+    pub total: Total,
     pub cost: u64,
     pub hours: u64,
 }
@@ -107,23 +108,24 @@ fn visit(
     net: &[u64; 5129],
     set: &[u64; 16],
     size: usize,
-    total: u64,
+    total: Total,
     best: &mut [u64; 16],
     progress: Progress,
 ) -> Progress
-    requires { ⌜ (length (now set) ≡ 16) × (length (now best) ≡ 16) × (size ≤ 16) × (total ≡ setTotal (networkIn (now net)) (take size (now set))) × Counted (networkIn (now net)) progress ⌝ }
+    requires { ⌜ (length (now set) ≡ 16) × (length (now best) ≡ 16) × (size ≤ 16) × (total .0 ≡ setTotal (networkIn (now net)) (take size (now set))) × Counted (networkIn (now net)) progress ⌝ }
     ensures { λ r. ⌜ (length (now (best .exit)) ≡ 16) × Counted (networkIn (now (net .entry))) r × (foundIn r (now (best .exit)) ≡ visited (networkIn (now (net .entry))) (take size (now (set .entry))) (foundIn progress (now (best .entry)))) ⌝ }
 {
+    let least = progress.best;
     if progress.visits == net[7] {
         return Progress {
-            best: progress.best,
+            best: least,
             count: progress.count,
             visits: progress.visits,
             spent: true,
         };
     }
     let visits = progress.visits + 1;
-    if total < progress.best {
+    if total.below(least) {
         copy_set(set, size, best);
         return Progress {
             best: total,
@@ -133,7 +135,7 @@ fn visit(
         };
     }
     Progress {
-        best: progress.best,
+        best: least,
         count: progress.count,
         visits,
         spent: progress.spent,
@@ -177,12 +179,12 @@ fn total_of_work(
     order: &[u64; 768],
     sums: &[u64; 768],
     impacts: &mut [u64; 768],
-) -> u64
+) -> Total
     requires { ⌜ Ready (networkIn (now work)) (now near) (now feed) (now order) (now sums) ⌝ }
-    ensures { λ r. ⌜ r ≡ total (networkIn (now (work .entry))) ⌝ }
+    ensures { λ r. ⌜ r .0 ≡ total (networkIn (now (work .entry))) ⌝ }
 {
     outage::impacts(work, near, feed, order, sums, impacts);
-    outage::total_of(work, impacts).number()
+    outage::total_of(work, impacts)
 }
 
 // Visits and extends the current set with one more place, which may get `left` more, if it is allowed.
@@ -271,7 +273,7 @@ fn extend(
         if found.spent {
             return found;
         }
-        if found.best + bounds[left * 65 + place - 1] <= current.total {
+        if found.best.number() + bounds[left * 65 + place - 1] <= current.total.number() {
             return found;
         }
         found = extend_by(
@@ -303,16 +305,16 @@ fn saving_of(
     order: &[u64; 768],
     sums: &[u64; 768],
     impacts: &mut [u64; 768],
-    alone: u64,
+    alone: Total,
     place: usize,
 ) -> u64
-    requires { ⌜ Entering (now net) (now work) (now near) (now feed) (now order) (now sums) [] place × (alone ≡ total (networkIn (now net))) ⌝ }
+    requires { ⌜ Entering (now net) (now work) (now near) (now feed) (now order) (now sums) [] place × (alone .0 ≡ total (networkIn (now net))) ⌝ }
     ensures { λ r. ⌜ (r ≡ saving (networkIn (now (net .entry))) place) × (now (work .exit) ≡ now (work .entry)) ⌝ }
 {
     let former = enter(net, work, place);
     let total = total_of_work(work, near, feed, order, sums, impacts);
     leave(net, work, place, former);
-    alone - total
+    alone.number() - total.number()
 }
 
 // The saving of each place.

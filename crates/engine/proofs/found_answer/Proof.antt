@@ -1,14 +1,19 @@
 use Rattle.engine.proofs.Found.{answer-spent, answer-finished}
 use Rattle.engine.proofs.found_answer.Statement.{statement}
 use Rattle.engine.proofs.found_answer.Tie as tie
-use Rattle.engine.proofs.found_answer.Reads as reads
-use Rattle.engine.proofs.found_answer.Lts as lts
+
+number-requires : tie.Need-number-requires
+number-requires c κs = tt
 
 returns : tie.Need-returns
-returns c = answer-spent (c .before .args .found) (c .before .pre) (c .if1 .taken)
+returns c =
+    let d = c .before .before in
+    answer-spent (d .args .found) (d .pre) (c .before .number .ensures) (c .if1 .taken)
 
 returns-2 : tie.Need-returns-2
-returns-2 c = answer-finished (c .before .args .found) (c .before .pre) (c .if1 .left)
+returns-2 c =
+    let d = c .before .before in
+    answer-finished (d .args .found) (d .pre) (c .before .number .ensures) (c .if1 .left)
 
 pub found-answer-spec : {M : Type 1} → statement M
-found-answer-spec = tie.close (tie.spec returns returns-2)
+found-answer-spec = tie.close (tie.spec number-requires returns returns-2)

@@ -1,5 +1,6 @@
 use mathlib.Core.Path.{_∙_}
 use borrow.Author.Needs.{needs}
+use Rattle.engine.proofs.Found.{found-is}
 use Rattle.engine.proofs.report_network.Statement.{statement}
 use Rattle.engine.proofs.report_network.Tie as tie
 use Rattle.engine.proofs.report_network.Reads as reads
@@ -26,17 +27,20 @@ number-requires c κs = search needs
 walk-requires : tie.Need-walk-requires
 walk-requires c κs = search needs
 
+number-requires-2 : tie.Need-number-requires-2
+number-requires-2 c κs = search needs
+
 write-report-requires : tie.Need-write-report-requires
 write-report-requires c κs =
-    let w = c .before .before .before .walk in
-    let t = c .before .before .before .before .before .before in
-    let a = c .before .before .before .before .before .before .before .before .before .before .before .before in (
+    let w = c .before .before .before .before .walk in
+    let t = c .before .before .before .before .before .before .before in
+    let a = t .before .before .before .before .before .before in (
       record {
         accepted = a .pre .0;
         holds = t .before .before .impacts .ensures;
-        isTotal = c .before .before .before .before .before .number .ensures ∙ t .total-of .ensures;
+        isTotal = c .before .before .before .before .before .before .number .ensures ∙ t .total-of .ensures;
         few = w .ensures .2;
-        found = w .ensures .0;
+        found = found-is (w .result) _ (c .before .number2 .ensures) ∙ w .ensures .0;
       },
       a .pre .2,
     )
@@ -56,6 +60,7 @@ report-network-spec =
     total-of-requires
     number-requires
     walk-requires
+    number-requires-2
     write-report-requires
     same-length
     returns)

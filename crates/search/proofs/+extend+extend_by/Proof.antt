@@ -19,6 +19,7 @@ use Rattle.search.proofs.+extend+extend_by.Lts-extend as extend-lts
 use Rattle.search.proofs.extend_by.Reads as extend-by
 use Rattle.search.proofs.extend_by.Kinds as extend-by-kinds
 use Rattle.search.proofs.+extend+extend_by.Lts-extend_by as extend-by-lts
+use Rattle.amounts.proofs.Total.number.Reads as number-reads
 use Rattle.buffer.proofs.place_cost.Reads as place-cost-reads
 use Rattle.buffer.proofs.place_hours.Reads as place-hours-reads
 use Rattle.buffer.proofs.places.Reads as places-reads
@@ -52,7 +53,7 @@ extend-by-below t =
 
 -- what the functions that each of the two calls ask and give
 abbrev extend-calls : ℕ → extend-lts.Claims
-extend-calls t = (places-reads.Asked, places-reads.Learnt, extend-by-below t, extend-by.Post)
+extend-calls t = (places-reads.Asked, places-reads.Learnt, number-reads.Asked, number-reads.Learnt, extend-by-below t, extend-by.Post)
 
 abbrev extend-by-calls : ℕ → extend-by-lts.Claims
 extend-by-calls t = (place-cost-reads.Asked, place-cost-reads.Learnt, place-hours-reads.Asked, place-hours-reads.Learnt, within-means-reads.Asked, within-means-reads.Learnt, enter-reads.Asked, enter-reads.Learnt, over-series-reads.Asked, over-series-reads.Learnt, total-of-work-reads.Asked, total-of-work-reads.Learnt, visit-reads.Asked, visit-reads.Learnt, extend-below t, extend.Post, leave-reads.Asked, leave-reads.Learnt)
@@ -83,30 +84,36 @@ extend-loop-holds t c =
 extend-returns-2 : (t : ℕ) → extend-lts.Need-returns-2 (extend-calls t) (extend-at t) extend.Post extend-Inv-loop extend-μ-loop
 extend-returns-2 t c = stopped-spent (c .before .before .before .before .before .pre .1 .0) (c .before .before .loop .inv) (c .before .loop-test .taken) (c .before .before .before .before .if1 .left) (c .if2 .taken)
 
+extend-number-requires : (t : ℕ) → extend-lts.Need-number-requires (extend-calls t) (extend-at t) extend.Post extend-Inv-loop extend-μ-loop
+extend-number-requires t c κs = tt
+
 extend-mul-if3 : (t : ℕ) → extend-lts.Need-mul-if3 (extend-calls t) (extend-at t) extend.Post extend-Inv-loop extend-μ-loop
-extend-mul-if3 t c = omega (arith, few (c .before .before .before .before .before .pre .1 .0))
+extend-mul-if3 t c = omega (arith, few (c .before .before .before .before .before .before .pre .1 .0))
 
 extend-add-if3 : (t : ℕ) → extend-lts.Need-add-if3 (extend-calls t) (extend-at t) extend.Post extend-Inv-loop extend-μ-loop
-extend-add-if3 t c = let x = c .before .before .before .before .before .pre .1 .0 in
-    omega (arith, few x, places-few x, c .before .before .loop .inv .within, c .before .before .loop .inv .all)
+extend-add-if3 t c = let x = c .before .before .before .before .before .before .pre .1 .0 in
+    omega (arith, few x, places-few x, c .before .before .before .loop .inv .within, c .before .before .before .loop .inv .all)
 
 extend-sub-if3 : (t : ℕ) → extend-lts.Need-sub-if3 (extend-calls t) (extend-at t) extend.Post extend-Inv-loop extend-μ-loop
-extend-sub-if3 t c = omega (arith, c .before .before .loop .inv .low)
+extend-sub-if3 t c = omega (arith, c .before .before .before .loop .inv .low)
 
 extend-mul-if3-2 : (t : ℕ) → extend-lts.Need-mul-if3-2 (extend-calls t) (extend-at t) extend.Post extend-Inv-loop extend-μ-loop
-extend-mul-if3-2 t c = let x = c .before .before .before .before .before .pre .1 .0 in
-    omega (arith, few x, places-few x, c .before .before .loop .inv .within, c .before .before .loop .inv .all)
+extend-mul-if3-2 t c = let x = c .before .before .before .before .before .before .pre .1 .0 in
+    omega (arith, few x, places-few x, c .before .before .before .loop .inv .within, c .before .before .before .loop .inv .all)
 
 extend-element-copy-out-if3 : (t : ℕ) → extend-lts.Need-element-copy-out-if3 (extend-calls t) (extend-at t) extend.Post extend-Inv-loop extend-μ-loop
-extend-element-copy-out-if3 t c = let x = c .before .before .before .before .before .pre .1 .0 in
-    omega (arith, few x, places-few x, c .before .loop-test .taken, c .before .before .loop .inv .all, c .before .before .loop .inv .low)
+extend-element-copy-out-if3 t c = let x = c .before .before .before .before .before .before .pre .1 .0 in
+    omega (arith, few x, places-few x, c .before .before .loop-test .taken, c .before .before .before .loop .inv .all, c .before .before .before .loop .inv .low)
 
 extend-add-if3-2 : (t : ℕ) → extend-lts.Need-add-if3-2 (extend-calls t) (extend-at t) extend.Post extend-Inv-loop extend-μ-loop
 extend-add-if3-2 t c =
     omega (arith, bound-size (c .before .before .before .before .before .before .before .pre .1 .0) (c .before .before .before .before .loop .inv) (c .before .before .before .loop-test .taken) (c .before .before .before .before .before .before .if1 .left), c .before .before .before .before .loop .inv .counted .best)
 
+extend-number-requires-2 : (t : ℕ) → extend-lts.Need-number-requires-2 (extend-calls t) (extend-at t) extend.Post extend-Inv-loop extend-μ-loop
+extend-number-requires-2 t c κs = tt
+
 extend-returns-3 : (t : ℕ) → extend-lts.Need-returns-3 (extend-calls t) (extend-at t) extend.Post extend-Inv-loop extend-μ-loop
-extend-returns-3 t c = stopped-hopeless (c .before .before .before .before .before .before .before .before .before .pre .1 .0) (c .before .before .before .before .before .before .loop .inv) (c .before .before .before .before .before .loop-test .taken) (c .before .before .before .before .before .before .before .before .if1 .left) (c .before .before .before .before .if2 .left) (c .if3 .taken)
+extend-returns-3 t c = stopped-hopeless (c .before .before .before .before .before .before .before .before .before .pre .1 .0) (c .before .before .before .before .before .before .loop .inv) (c .before .before .before .before .before .loop-test .taken) (c .before .before .before .before .before .before .before .before .if1 .left) (c .before .before .before .before .if2 .left) (omega arith)
 
 extend-sub-extend-by : (t : ℕ) → extend-lts.Need-sub-extend-by (extend-calls t) (extend-at t) extend.Post extend-Inv-loop extend-μ-loop
 extend-sub-extend-by t c = let l = c .before .before .before .before .before .before .before .before .before .before .before .before .if1 .left in omega arith
@@ -129,7 +136,7 @@ extend-loop-again : (t : ℕ) → extend-lts.Need-loop-again (extend-calls t) (e
 extend-loop-again t c =
     let e = c .extend-by in
     going-on (c .before .before .before .before .before .before .before .before .before .before .before .before .before .before .pre .1 .0) (c .before .before .before .before .before .before .before .before .before .before .before .loop .inv) (c .before .before .before .before .before .before .before .before .before .before .loop-test .taken) (c .before .before .before .before .before .before .before .before .before .before .before .before .before .if1 .left) (c .before .before .before .before .before .before .before .before .before .if2 .left)
-    (e .result) (e .last .1 .0) (e .last .1 .1 .1 .1 .1 .1 .1 .1 .0) (e .last .1 .1 .1 .1 .1 .1 .1 .1 .1 .0) (c .before .before .before .before .before .if3 .left) (e .ensures)
+    (e .result) (e .last .1 .0) (e .last .1 .1 .1 .1 .1 .1 .1 .1 .0) (e .last .1 .1 .1 .1 .1 .1 .1 .1 .1 .0) (omega (arith, c .before .before .before .before .before)) (e .ensures)
 
 extend-returns-4 : (t : ℕ) → extend-lts.Need-returns-4 (extend-calls t) (extend-at t) extend.Post extend-Inv-loop extend-μ-loop
 extend-returns-4 t c = stopped-last (c .before .before .before .before .pre .1 .0) (c .before .loop .inv) (c .loop-test .left)
@@ -270,12 +277,14 @@ pub +extend+extend-by-spec : {M : Type 1} → statement M
     (extend-add-place-end t)
     (extend-loop-holds t)
     (extend-returns-2 t)
+    (extend-number-requires t)
     (extend-mul-if3 t)
     (extend-add-if3 t)
     (extend-sub-if3 t)
     (extend-mul-if3-2 t)
     (extend-element-copy-out-if3 t)
     (extend-add-if3-2 t)
+    (extend-number-requires-2 t)
     (extend-returns-3 t)
     (extend-sub-extend-by t)
     (extend-extend-by-requires t)

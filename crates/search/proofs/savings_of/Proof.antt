@@ -5,7 +5,7 @@ use Rattle.search.proofs.savings_of.Statement.{statement}
 use Rattle.search.proofs.savings_of.Tie as tie
 
 abbrev Inv-loop : tie.InvT-loop
-Inv-loop net work₀ near feed order sums impacts₀ savings₀ alone i₀ i-end work impacts savings i = Saved net work₀ alone i i-end work savings
+Inv-loop net work₀ near feed order sums impacts₀ savings₀ alone i₀ i-end work impacts savings i = Saved net work₀ (alone .0) i i-end work savings
 
 abbrev μ-loop : tie.MeasureT-loop
 μ-loop net work₀ near feed order sums impacts₀ savings₀ alone i₀ i-end work impacts savings i = i-end - i
@@ -19,7 +19,7 @@ places-requires c κs = tt
 loop-holds : tie.Need-loop-holds Inv-loop μ-loop
 loop-holds c =
     let d = c .before .before .before .before in
-    saved-none (d .pre .0) (c .before .total-of-work .result) (c .places .result) (d .args .savings .now) (c .before .total-of-work .ensures) (c .places .ensures) (d .pre .1)
+    saved-none (d .pre .0) (c .before .total-of-work .result .0) (c .places .result) (d .args .savings .now) (c .before .total-of-work .ensures) (c .places .ensures) (d .pre .1)
 
 add-saving-of : tie.Need-add-saving-of Inv-loop μ-loop
 add-saving-of c = omega (arith, few (c .before .before .before .before .before .before .before .before .pre .0) (c .before .before .before .loop .inv))

@@ -12,12 +12,9 @@ total-of-requires c κs =
     let d = c .before .before .before in
     (d .pre .read, c .before .impacts .ensures)
 
-number-requires : tie.Need-number-requires
-number-requires c κs = search needs
-
 returns : tie.Need-returns
 returns c = search needs
 
 pub total-of-work-spec : {M : Type 1} → statement M
 total-of-work-spec =
-    tie.close (tie.spec impacts-requires total-of-requires number-requires returns)
+    tie.close (tie.spec impacts-requires total-of-requires returns)

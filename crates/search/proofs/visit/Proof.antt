@@ -1,6 +1,7 @@
 use mathlib.Core.Path.{_≡_, sym, _∙_}
 use native.Mathlib.Omega.{arith}
 use lib.ListN.{take}
+use borrow.Author.Tests.{ltb-true}
 use Rattle.model.specs.Walk.{Found}
 use Rattle.buffer.specs.Buffer.{networkIn}
 use Rattle.search.specs.Walking.{foundIn}
@@ -15,7 +16,7 @@ element-copy-out-if1 c = search needs
 
 returns : tie.Need-returns
 returns c =
-    let d = c .before .before .before in
+    let d = c .before .before .before .before in
     let n = networkIn (d .args .net .now) in
     let S = take (d .args .size) (d .args .set .now) in
     let f : Found = foundIn (d .args .progress) (d .args .best .now) in
@@ -25,32 +26,37 @@ returns c =
 add-visits : tie.Need-add-visits
 add-visits c = search needs
 
+below-requires : tie.Need-below-requires
+below-requires c κs = tt
+
 copy-set-requires : tie.Need-copy-set-requires
 copy-set-requires c κs = search needs
 
 returns-2 : tie.Need-returns-2
 returns-2 c =
-    let d = c .before .before .before .before .before .before .before .before in
+    let d = c .before .before .before .before .before .before .before .before .before in
     let n = networkIn (d .args .net .now) in
     let S = take (d .args .size) (d .args .set .now) in
     let f : Found = foundIn (d .args .progress) (d .args .best .now) in
     let k = c .copy-set in
-    let l : d .args .progress .visits ≡ n .head .visits → ⊥ = λ e. c .before .before .before .before .before .if1 .left (e ∙ visits-at (d .args .net .now)) in (
+    let l : d .args .progress .visits ≡ n .head .visits → ⊥ = λ e. c .before .before .before .before .before .if1 .left (e ∙ visits-at (d .args .net .now)) in
+    let b = sym (c .before .before .before .below .ensures) ∙ c .before .before .if2 .taken in
+    let less = ltb-true (d .args .total .0) (d .args .progress .best .0) b in (
       k .ensures .0,
       record { best = omega arith; count = d .pre .2; visits = omega arith; limit = d .pre .4 .limit },
-      visit-better n S f (take (d .args .size) (k .last .1 .1 .0)) (d .args .total) (k .ensures .1) (d .pre .3) l (c .before .before .if2 .taken),
+      visit-better n S f (take (d .args .size) (k .last .1 .1 .0)) (d .args .total .0) (k .ensures .1) (d .pre .3) l b,
     )
 
 returns-3 : tie.Need-returns-3
 returns-3 c =
-    let d = c .before .before .before .before .before .before in
+    let d = c .before .before .before .before .before .before .before in
     let n = networkIn (d .args .net .now) in
     let S = take (d .args .size) (d .args .set .now) in
     let f : Found = foundIn (d .args .progress) (d .args .best .now) in
     let l : d .args .progress .visits ≡ n .head .visits → ⊥ = λ e. c .before .before .before .if1 .left (e ∙ visits-at (d .args .net .now)) in
-    (d .pre .1, record { best = d .pre .4 .best; count = d .pre .4 .count; visits = omega arith; limit = d .pre .4 .limit }, visit-other n S f (d .args .total) (d .pre .3) l (c .if2 .left))
+    (d .pre .1, record { best = d .pre .4 .best; count = d .pre .4 .count; visits = omega arith; limit = d .pre .4 .limit }, visit-other n S f (d .args .total .0) (d .pre .3) l (sym (c .before .below .ensures) ∙ c .if2 .left))
 
 pub visit-spec : {M : Type 1} → statement M
 visit-spec =
     tie.close
-    (tie.spec element-copy-out-if1 returns add-visits copy-set-requires returns-2 returns-3)
+    (tie.spec element-copy-out-if1 returns add-visits below-requires copy-set-requires returns-2 returns-3)
