@@ -20,7 +20,7 @@ module _ {A : Type 0} where
   Rising val (e ∷ es) = Above val (val e) es × Rising val es
 
   -- what firstOr takes of a list, by the test of its first element
-  abbrev this : Bool → A → A → A
+  abbrev pub this : Bool → A → A → A
   this b e rest = elim b [ true ↦ e | false ↦ rest ]
 
 module _ {A : Type 0} (val : A → ℕ) (other : A) where

@@ -28,14 +28,14 @@ sum-le f f' g g' n (suc k) h = omega (arith, h n (omega arith) (omega arith), su
 
 module _ (N : Network) where
   -- the outage amount of a line and the total, were the breakers the ends that B takes
-  abbrev amountWith : (End → Bool) → ℕ → ℕ
+  abbrev pub amountWith : (End → Bool) → ℕ → ℕ
   amountWith B l = numbered noLine (N .lines) l .weight * customersBehind N (firstOr noEnd B (pathToHV N (line l)))
 
-  abbrev totalWith : (End → Bool) → ℕ
+  abbrev pub totalWith : (End → Bool) → ℕ
   totalWith B = sum (map (amountWith B) (numbers 1 (length (N .lines))))
 
   -- the network's breakers and the ends of a set's places
-  abbrev breakersWith : List ℕ → End → Bool
+  abbrev pub breakersWith : List ℕ → End → Bool
   breakersWith S e = isBreaker N e || any (λ p. sameEnd e (endAt N p)) S
 
   -- the total of a network that differs in its breakers alone, and of a set
@@ -45,11 +45,11 @@ module _ (N : Network) where
       (λ l. s .weight l i * customersBehind-same M N s (firstOr noEnd (λ e. isBreaker M e) (pathToHV-same M N s (line l) i)) i)
       (numbers 1 (s .lineCount i)))
 
-  setTotal-is : (S : List ℕ) → Valid N S → setTotal N S ≡ totalWith (breakersWith S)
+  pub setTotal-is : (S : List ℕ) → Valid N S → setTotal N S ≡ totalWith (breakersWith S)
   unfolding setTotal
   setTotal-is S v = total-is (withBreakers N S) (withBreakers-same S N v) ∙ ap totalWith (fun-ext (λ e. withBreakers-breaker S N v e))
 
-  breakersWith-append : (S T : List ℕ) (e : End) → breakersWith (S ++ T) e ≡ (breakersWith S e || any (λ p. sameEnd e (endAt N p)) T)
+  pub breakersWith-append : (S T : List ℕ) (e : End) → breakersWith (S ++ T) e ≡ (breakersWith S e || any (λ p. sameEnd e (endAt N p)) T)
   breakersWith-append S T e = let B : ℕ → Bool = λ p. sameEnd e (endAt N p) in
       ap (λ b. isBreaker N e || b) (any-append B S T) ∙ sym (or-assoc (isBreaker N e) (any B S) (any B T))
 

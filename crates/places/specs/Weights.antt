@@ -1,0 +1,85 @@
+-- The total and the weights by places: how they change with one more breaker.
+use Prim.Native.Nat.{ℕ, _+_, _*_}
+use mathlib.Core.Path.{_≡_, refl, sym, ap, _∙_}
+use mathlib.Core.Bool.{Bool, true, false, not, _&&_, _||_, true≢false}
+use mathlib.Core.Logic.{_≢_}
+use mathlib.Core.List.{List, [], _∷_, List·Memᴰ, List·Memᴰ·head, List·Memᴰ·tail}
+use native.Mathlib.Omega.{arith}
+use Rattle.model.specs.Lists.{any, firstOr}
+use Rattle.model.specs.Paths.{End, sameEnd}
+use Rattle.model.specs.Outage.{noEnd}
+use Rattle.graphs.specs.Sum.{on, sumOver, sum-ext, sum-add}
+use Rattle.savings.specs.Facts.{or-left, or-right, or-cases, both, sameEnd-eq}
+use Rattle.savings.specs.First.{this}
+use Rattle.places.specs.Ways.{has, with, covers, Way, near, under, first-with, has-onward, covers-is, covered}
+
+-- where f and g, counted if a test passes, are together h, so are their sums
+sum-on : (u : Bool) (f g h : ℕ → ℕ) (ls : List ℕ) → ((l : ℕ) → List·Memᴰ l ls → f l + on u (g l) ≡ h l) → sumOver f ls + on u (sumOver g ls) ≡ sumOver h ls
+sum-on true f g h ls e = sym (sum-add f g ls) ∙ sum-ext (λ l. f l + g l) h ls e
+sum-on false f g h ls e = omega (arith, sum-ext f h ls (λ l m. omega (arith, e l m)))
+
+on-nought : (c : Bool) (n : ℕ) → n + on c 0 ≡ n
+on-nought true n = omega arith
+on-nought false n = omega arith
+
+-- what a breaker would trip for passes it
+pub covers-has : (B : End → Bool) (q : End) (es : List End) → covers B q es ≡ true → has q es ≡ true
+unfolding any
+covers-has B q [] h = h
+covers-has B q (e ∷ es) h = or-cases (sameEnd e q) (not (B e) && covers B q es) (λ s. or-left (sameEnd e q) (has q es) s)
+    (λ s. or-right (sameEnd e q) (has q es) (covers-has B q es (both (not (B e)) (covers B q es) s .1))) h
+
+module _ (up : End → List End) (B : End → Bool) (q : End) (f : B q ≡ false) where
+  -- With a breaker at q, p's trips no longer for the paths for which q's does, where p's tripped for what lies behind q.
+  covers-with : (p : End) → p ≢ q → (n : ℕ) (es : List End) → Way up es → on (covers (with B q) p es) n + on (covers B p (up q)) (on (covers B q es) n) ≡ on (covers B p es) n
+  covers-with p d n [] w = on-nought (covers B p (up q)) 0
+  covers-with p d n (e ∷ es) w = go (sameEnd e p) (sameEnd e q) (B e) refl refl refl (covers-with p d n es (w .2))
+    where
+      go : (s t b : Bool) → sameEnd e p ≡ s → sameEnd e q ≡ t → B e ≡ b
+          → on (covers (with B q) p es) n + on (covers B p (up q)) (on (covers B q es) n) ≡ on (covers B p es) n
+          → on (s || (not (b || t) && covers (with B q) p es)) n + on (covers B p (up q)) (on (t || (not b && covers B q es)) n) ≡ on (s || (not b && covers B p es)) n
+      go true true b s t _ ih = absurd (d (sym (sameEnd-eq e p s) ∙ sameEnd-eq e q t))
+      go true false true s t _ ih = on-nought (covers B p (up q)) n
+      go true false false s t _ ih = none (covers B p (up q)) (covers B q es) refl refl
+        where
+          none : (c k : Bool) → covers B p (up q) ≡ c → covers B q es ≡ k → n + on c (on k n) ≡ n
+          none true true c k = absurd (true≢false (sym (has-onward up q p es (w .2) (covers-has B q es k) (covers-has B p (up q) c)) ∙ ap (λ x. has x es) (sym (sameEnd-eq e p s)) ∙ w .1))
+          none c false _ _ = on-nought c n
+          none false true _ _ = on-nought false n
+      go false true true s t b ih = absurd (true≢false (sym b ∙ ap B (sameEnd-eq e q t) ∙ f))
+      go false true false s t _ ih = omega (arith, ap (λ x. on (covers B p x) n) (w .0 ∙ ap up (sameEnd-eq e q t)))
+      go false false true s t _ ih = on-nought (covers B p (up q)) 0
+      go false false false s t _ ih = ih
+
+-- lines with their paths to the HV station and their weights
+module _ (up : End → List End) (path : ℕ → List End) (w : ℕ → ℕ) where
+  -- the weight of an end: that of all lines for which its breaker would trip
+  abbrev pub weight : List ℕ → (End → Bool) → End → ℕ
+  weight ls B q = sumOver (λ l. on (covers B q (path l)) (w l)) ls
+
+  -- the total, where `value` gives the customers behind an end
+  abbrev pub totalBy : (End → ℕ) → List ℕ → (End → Bool) → ℕ
+  totalBy value ls B = sumOver (λ l. w l * value (firstOr noEnd B (path l))) ls
+
+  module _ (B : End → Bool) (q : End) (n : B noEnd ≡ false) (f : B q ≡ false) where
+    -- Totals: one more breaker lowers the impact of each line in its weight, from that of the breaker near it to its own.
+    pub total-with : (value : End → ℕ) (ls : List ℕ) → ((l : ℕ) → List·Memᴰ l ls → Way up (path l))
+        → totalBy value ls (with B q) + weight ls B q * value (near up B q) ≡ totalBy value ls B + weight ls B q * value q
+    total-with value [] ways = omega arith
+    total-with value (l ∷ ls) ways = omega (arith, one (covers B q (path l)) refl, total-with value ls (λ k m. ways k (List·Memᴰ·tail m)))
+      where
+        one : (c : Bool) → covers B q (path l) ≡ c
+            → w l * value (firstOr noEnd (with B q) (path l)) + on c (w l) * value (near up B q) ≡ w l * value (firstOr noEnd B (path l)) + on c (w l) * value q
+        one true c = omega (
+          arith,
+          ap (λ x. w l * value x) (first-with B q (path l) ∙ ap (λ x. this x q (firstOr noEnd B (path l))) c),
+          ap (λ x. w l * value x) (covered up B q n f (path l) (ways l (List·Memᴰ·head refl)) c),
+        )
+        one false c = omega (arith, ap (λ x. w l * value x) (first-with B q (path l) ∙ ap (λ x. this x q (firstOr noEnd B (path l))) c))
+
+    -- Weights: one more breaker at q takes its weight from that of an end p that q is under.
+    pub weight-with : (p : End) → p ≢ q → B p ≡ false → Way up (up q) → (ls : List ℕ) → ((l : ℕ) → List·Memᴰ l ls → Way up (path l))
+        → weight ls (with B q) p + on (under up B q p) (weight ls B q) ≡ weight ls B p
+    weight-with p d g wq ls ways =
+        ap (λ c. weight ls (with B q) p + on c (weight ls B q)) (sym (covers-is up B p n g (up q) wq))
+        ∙ sum-on (covers B p (up q)) _ _ _ ls (λ l m. covers-with up B q f p d (w l) (path l) (ways l m))
