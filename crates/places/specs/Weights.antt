@@ -52,7 +52,7 @@ module _ (up : End → List End) (B : End → Bool) (q : End) (f : B q ≡ false
       go false false false s t _ ih = ih
 
 -- lines with their paths to the HV station and their weights
-module _ (up : End → List End) (path : ℕ → List End) (w : ℕ → ℕ) where
+module _ (path : ℕ → List End) (w : ℕ → ℕ) where
   -- the weight of an end: that of all lines for which its breaker would trip
   abbrev pub weight : List ℕ → (End → Bool) → End → ℕ
   weight ls B q = sumOver (λ l. on (covers B q (path l)) (w l)) ls
@@ -61,7 +61,7 @@ module _ (up : End → List End) (path : ℕ → List End) (w : ℕ → ℕ) whe
   abbrev pub totalBy : (End → ℕ) → List ℕ → (End → Bool) → ℕ
   totalBy value ls B = sumOver (λ l. w l * value (firstOr noEnd B (path l))) ls
 
-  module _ (B : End → Bool) (q : End) (n : B noEnd ≡ false) (f : B q ≡ false) where
+  module _ (up : End → List End) (B : End → Bool) (q : End) (n : B noEnd ≡ false) (f : B q ≡ false) where
     -- Totals: one more breaker lowers the impact of each line in its weight, from that of the breaker near it to its own.
     pub total-with : (value : End → ℕ) (ls : List ℕ) → ((l : ℕ) → List·Memᴰ l ls → Way up (path l))
         → totalBy value ls (with B q) + weight ls B q * value (near up B q) ≡ totalBy value ls B + weight ls B q * value q
