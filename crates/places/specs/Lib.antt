@@ -1,3 +1,5 @@
 pub mod Ways
 pub mod Weights
 pub mod Worst
+pub mod Onward
+pub mod Sets

@@ -2,7 +2,6 @@
 use Prim.Native.Nat.{ℕ, _+_, _*_}
 use mathlib.Core.Path.{_≡_, refl, sym, ap, _∙_}
 use mathlib.Core.Bool.{Bool, true, false, not, _&&_, _||_, true≢false}
-use mathlib.Core.Logic.{_≢_}
 use mathlib.Core.List.{List, [], _∷_, List·Memᴰ, List·Memᴰ·head, List·Memᴰ·tail}
 use native.Mathlib.Omega.{arith}
 use Rattle.model.specs.Lists.{any, firstOr}
@@ -31,19 +30,22 @@ covers-has B q (e ∷ es) h = or-cases (sameEnd e q) (not (B e) && covers B q es
 
 module _ (up : End → List End) (B : End → Bool) (q : End) (f : B q ≡ false) where
   -- With a breaker at q, p's trips no longer for the paths for which q's does, where p's tripped for what lies behind q.
-  covers-with : (p : End) → p ≢ q → (n : ℕ) (es : List End) → Way up es → on (covers (with B q) p es) n + on (covers B p (up q)) (on (covers B q es) n) ≡ on (covers B p es) n
-  covers-with p d n [] w = on-nought (covers B p (up q)) 0
-  covers-with p d n (e ∷ es) w = go (sameEnd e p) (sameEnd e q) (B e) refl refl refl (covers-with p d n es (w .2))
+  covers-with : (p : End) (n : ℕ) (es : List End) → Way up es → on (covers (with B q) p es) n + on (covers B p (up q)) (on (covers B q es) n) ≡ on (covers B p es) n
+  covers-with p n [] w = on-nought (covers B p (up q)) 0
+  covers-with p n (e ∷ es) w = go (sameEnd e p) (sameEnd e q) (B e) refl refl refl (covers-with p n es (w .2))
     where
       go : (s t b : Bool) → sameEnd e p ≡ s → sameEnd e q ≡ t → B e ≡ b
           → on (covers (with B q) p es) n + on (covers B p (up q)) (on (covers B q es) n) ≡ on (covers B p es) n
           → on (s || (not (b || t) && covers (with B q) p es)) n + on (covers B p (up q)) (on (t || (not b && covers B q es)) n) ≡ on (s || (not b && covers B p es)) n
-      go true true b s t _ ih = absurd (d (sym (sameEnd-eq e p s) ∙ sameEnd-eq e q t))
-      go true false true s t _ ih = on-nought (covers B p (up q)) n
-      go true false false s t _ ih = none (covers B p (up q)) (covers B q es) refl refl
+      go true t b s h _ ih = none (covers B p (up q)) (t || (not b && covers B q es)) refl refl
         where
-          none : (c k : Bool) → covers B p (up q) ≡ c → covers B q es ≡ k → n + on c (on k n) ≡ n
-          none true true c k = absurd (true≢false (sym (has-onward up q p es (w .2) (covers-has B q es k) (covers-has B p (up q) c)) ∙ ap (λ x. has x es) (sym (sameEnd-eq e p s)) ∙ w .1))
+          -- what lies onward from q is onward from p, so p is not there
+          onward : (t || (not b && covers B q es)) ≡ true → has p (up q) ≡ true → has p es ≡ true
+          onward k m = or-cases t (not b && covers B q es) (λ x. ap (has p) (w .0 ∙ ap up (sameEnd-eq e q (h ∙ x))) ∙ m)
+              (λ x. has-onward up q p es (w .2) (covers-has B q es (both (not b) (covers B q es) x .1)) m) k
+
+          none : (c k : Bool) → covers B p (up q) ≡ c → (t || (not b && covers B q es)) ≡ k → n + on c (on k n) ≡ n
+          none true true c k = absurd (true≢false (sym (onward k (covers-has B p (up q) c)) ∙ ap (λ x. has x es) (sym (sameEnd-eq e p s)) ∙ w .1))
           none c false _ _ = on-nought c n
           none false true _ _ = on-nought false n
       go false true true s t b ih = absurd (true≢false (sym b ∙ ap B (sameEnd-eq e q t) ∙ f))
@@ -78,8 +80,8 @@ module _ (path : ℕ → List End) (w : ℕ → ℕ) where
         one false c = omega (arith, ap (λ x. w l * value x) (first-with B q (path l) ∙ ap (λ x. this x q (firstOr noEnd B (path l))) c))
 
     -- Weights: one more breaker at q takes its weight from that of an end p that q is under.
-    pub weight-with : (p : End) → p ≢ q → B p ≡ false → Way up (up q) → (ls : List ℕ) → ((l : ℕ) → List·Memᴰ l ls → Way up (path l))
+    pub weight-with : (p : End) → B p ≡ false → Way up (up q) → (ls : List ℕ) → ((l : ℕ) → List·Memᴰ l ls → Way up (path l))
         → weight ls (with B q) p + on (under up B q p) (weight ls B q) ≡ weight ls B p
-    weight-with p d g wq ls ways =
+    weight-with p g wq ls ways =
         ap (λ c. weight ls (with B q) p + on c (weight ls B q)) (sym (covers-is up B p n g (up q) wq))
-        ∙ sum-on (covers B p (up q)) _ _ _ ls (λ l m. covers-with up B q f p d (w l) (path l) (ways l m))
+        ∙ sum-on (covers B p (up q)) _ _ _ ls (λ l m. covers-with up B q f p (w l) (path l) (ways l m))

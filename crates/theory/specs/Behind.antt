@@ -114,7 +114,7 @@ pub far-not : (e : End) → far e ≢ e
 far-not e p = let t : 3 - e .side ≡ e .side = ap (λ (x : End). x .side) p in omega arith
 
 -- the stations and lines of the file
-abbrev vertices : Network → List Vertex
+abbrev pub vertices : Network → List Vertex
 vertices N = map (λ s. station s) (stationNumbers N) ++ map (λ l. line l) (lineNumbers N)
 
 -- the customers of a vertex: a line has none
@@ -251,7 +251,7 @@ module _ (N : Network) where
       nothing false = refl
 
   -- what is listed is of the file
-  listed-in : (v : Vertex) → List·Memᴰ v (vertices N) → In N v
+  pub listed-in : (v : Vertex) → List·Memᴰ v (vertices N) → In N v
   unfolding stationNumbers lineNumbers
   listed-in v m = ⊎-elim
       (λ k. let f = Memᴰ·of-map (λ s. station s) (numbers 1 (length (N .stations))) k in
