@@ -3,3 +3,4 @@ pub mod Weights
 pub mod Worst
 pub mod Onward
 pub mod Sets
+pub mod Stops

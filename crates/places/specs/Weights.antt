@@ -7,17 +7,17 @@ use native.Mathlib.Omega.{arith}
 use Rattle.model.specs.Lists.{any, firstOr}
 use Rattle.model.specs.Paths.{End, sameEnd}
 use Rattle.model.specs.Outage.{noEnd}
-use Rattle.graphs.specs.Sum.{on, sumOver, sum-ext, sum-add}
+use Rattle.graphs.specs.Sum.{on, sumOver, sum-ext, sum-zero, sum-add}
 use Rattle.savings.specs.Facts.{or-left, or-right, or-cases, both, sameEnd-eq}
 use Rattle.savings.specs.First.{this}
 use Rattle.places.specs.Ways.{has, with, covers, Way, near, under, first-with, has-onward, covers-is, covered}
 
--- where f and g, counted if a test passes, are together h, so are their sums
-sum-on : (u : Bool) (f g h : ℕ → ℕ) (ls : List ℕ) → ((l : ℕ) → List·Memᴰ l ls → f l + on u (g l) ≡ h l) → sumOver f ls + on u (sumOver g ls) ≡ sumOver h ls
-sum-on true f g h ls e = sym (sum-add f g ls) ∙ sum-ext (λ l. f l + g l) h ls e
-sum-on false f g h ls e = omega (arith, sum-ext f h ls (λ l m. omega (arith, e l m)))
+-- a sum that is counted if a test passes, number by number
+pub on-sum : (c : Bool) (f : ℕ → ℕ) (ls : List ℕ) → on c (sumOver f ls) ≡ sumOver (λ l. on c (f l)) ls
+on-sum true f ls = refl
+on-sum false f ls = sym (sum-zero (λ l. 0) ls (λ l m. refl))
 
-on-nought : (c : Bool) (n : ℕ) → n + on c 0 ≡ n
+pub on-nought : (c : Bool) (n : ℕ) → n + on c 0 ≡ n
 on-nought true n = omega arith
 on-nought false n = omega arith
 
@@ -83,5 +83,10 @@ module _ (path : ℕ → List End) (w : ℕ → ℕ) where
     pub weight-with : (p : End) → B p ≡ false → Way up (up q) → (ls : List ℕ) → ((l : ℕ) → List·Memᴰ l ls → Way up (path l))
         → weight ls (with B q) p + on (under up B q p) (weight ls B q) ≡ weight ls B p
     weight-with p g wq ls ways =
-        ap (λ c. weight ls (with B q) p + on c (weight ls B q)) (sym (covers-is up B p n g (up q) wq))
-        ∙ sum-on (covers B p (up q)) _ _ _ ls (λ l m. covers-with up B q f p (w l) (path l) (ways l m))
+        let c : Bool = covers B p (up q) in
+        omega (
+          arith,
+          ap (λ b. on b (weight ls B q)) (sym (covers-is up B p n g (up q) wq)) ∙ on-sum c (λ l. on (covers B q (path l)) (w l)) ls,
+          sym (sum-add (λ l. on (covers (with B q) p (path l)) (w l)) (λ l. on c (on (covers B q (path l)) (w l))) ls)
+              ∙ sum-ext _ _ ls (λ l m. covers-with up B q f p (w l) (path l) (ways l m)),
+        )

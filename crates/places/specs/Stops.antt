@@ -1,0 +1,74 @@
+-- Weights summed up over first stops: the first end of a line's path that has a breaker or a place.
+use Prim.Native.Nat.{ℕ, _+_}
+use mathlib.Core.Path.{_≡_, refl, sym, ap, _∙_}
+use mathlib.Core.Bool.{Bool, true, false, not, _&&_, _||_, true≢false}
+use mathlib.Core.List.{List, [], _∷_, List·Memᴰ}
+use native.Mathlib.Omega.{arith}
+use Rattle.model.specs.Lists.{any, firstOr}
+use Rattle.model.specs.Paths.{End, sameEnd}
+use Rattle.model.specs.Outage.{noEnd}
+use Rattle.graphs.specs.Graph.{NoRepeat}
+use Rattle.graphs.specs.Sum.{on, sumOver, sum-ext, sum-swap}
+use Rattle.savings.specs.Facts.{sameEnd-eq}
+use Rattle.savings.specs.First.{this}
+use Rattle.theory.specs.Ends.{fresh-unused}
+use Rattle.places.specs.Ways.{has, covers, Way, near, under, covers-is}
+use Rattle.places.specs.Weights.{on-sum, on-nought, weight}
+
+-- of ends that are listed once, the one that is s counts if it passes a test
+listed-one : (test : End → Bool) (s : End) (n : ℕ) (ps : List End) → NoRepeat ps → sumOver (λ p. on (test p) (on (sameEnd p s) n)) ps ≡ on (has s ps && test s) n
+unfolding any
+listed-one test s n [] once = refl
+listed-one test s n (p ∷ ps) once = go (sameEnd p s) refl (listed-one test s n ps (once .1))
+  where
+    go : (b : Bool) → sameEnd p s ≡ b → sumOver (λ p. on (test p) (on (sameEnd p s) n)) ps ≡ on (has s ps && test s) n
+        → on (test p) (on b n) + sumOver (λ p. on (test p) (on (sameEnd p s) n)) ps ≡ on ((b || has s ps) && test s) n
+    go true h ih =
+        let e : p ≡ s = sameEnd-eq p s h in
+        omega (arith, ih, ap (λ b. on (b && test s) n) (ap (λ x. has x ps) (sym e) ∙ fresh-unused p ps (once .0)), ap (λ x. on (test x) n) e)
+    go false h ih = omega (arith, ih, on-nought (test p) (on (has s ps && test s) n))
+
+-- the first end of a path that has a breaker or a place
+abbrev pub firstStop : (End → Bool) → List End → List End → End
+firstStop B ps es = firstOr noEnd (λ e. B e || has e ps) es
+
+-- the weight of all lines whose first stop is p
+abbrev pub own : (ℕ → List End) → (ℕ → ℕ) → List ℕ → (End → Bool) → List End → End → ℕ
+own path w ls B ps p = sumOver (λ l. on (sameEnd p (firstStop B ps (path l))) (w l)) ls
+
+module _ (up : End → List End) (B : End → Bool) (n : B noEnd ≡ false) (ps : List End) (plain : (e : End) → has e ps ≡ true → B e ≡ false) (z : has noEnd ps ≡ false)
+    (p : End) (listed : has p ps ≡ true) where
+  -- the first stop s of a path is a place, and is p or under it
+  abbrev stopsBy : End → Bool
+  stopsBy s = has s ps && (sameEnd s p || under up B s p)
+
+  -- p's breaker would trip for just such paths
+  stop-covers : (es : List End) → Way up es → covers B p es ≡ stopsBy (firstStop B ps es)
+  unfolding firstOr
+  stop-covers [] w = sym (ap (λ b. b && (sameEnd noEnd p || under up B noEnd p)) z)
+  stop-covers (e ∷ es) w = go (B e) (has e ps) refl refl (stop-covers es (w .2))
+    where
+      -- an end without a place is not p
+      other : (b : Bool) → sameEnd e p ≡ b → has e ps ≡ false → b ≡ false
+      other true s h = absurd (true≢false (sym listed ∙ ap (λ x. has x ps) (sym (sameEnd-eq e p s)) ∙ h))
+      other false s h = refl
+
+      go : (b h : Bool) → B e ≡ b → has e ps ≡ h → covers B p es ≡ stopsBy (firstStop B ps es)
+          → (sameEnd e p || (not b && covers B p es)) ≡ stopsBy (this (b || h) e (firstStop B ps es))
+      go true true b h ih = absurd (true≢false (sym b ∙ plain e h))
+      go true false b h ih = ap (λ x. x || false) (other (sameEnd e p) refl h) ∙ sym (ap (λ x. x && (sameEnd e p || under up B e p)) h)
+      go false true b h ih =
+          ap (λ x. sameEnd e p || x) (covers-is up B p n (plain p listed) es (w .2) ∙ ap (λ x. has p x && sameEnd (firstOr noEnd B x) (near up B p)) (w .0))
+          ∙ sym (ap (λ x. x && (sameEnd e p || under up B e p)) h)
+      go false false b h ih = ap (λ x. x || covers B p es) (other (sameEnd e p) refl h) ∙ ih
+
+  -- Weights: that of a place is the sum of what stops first at it and at the places under it.
+  pub weight-stops : NoRepeat ps → (path : ℕ → List End) (w : ℕ → ℕ) (ls : List ℕ) → ((l : ℕ) → List·Memᴰ l ls → Way up (path l))
+      → weight path w ls B p ≡ sumOver (λ s. on (sameEnd s p || under up B s p) (own path w ls B ps s)) ps
+  weight-stops once path w ls ways =
+      let part : End → ℕ → ℕ = λ s l. on (sameEnd s (firstStop B ps (path l))) (w l) in
+      let test : End → Bool = λ s. sameEnd s p || under up B s p in
+      sum-ext _ (λ l. sumOver (λ s. on (test s) (part s l)) ps) ls
+      (λ l m. ap (λ b. on b (w l)) (stop-covers (path l) (ways l m)) ∙ sym (listed-one test (firstStop B ps (path l)) (w l) ps once))
+      ∙ sum-swap (λ l s. on (test s) (part s l)) ls ps
+      ∙ sum-ext _ _ ps (λ s m. sym (on-sum (test s) (part s) ls))
