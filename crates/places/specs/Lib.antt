@@ -4,3 +4,5 @@ pub mod Worst
 pub mod Onward
 pub mod Sets
 pub mod Stops
+pub mod Apart
+pub mod Start

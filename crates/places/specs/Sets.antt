@@ -37,13 +37,13 @@ sum-over f (l ∷ ls) = ap (λ n. f l + n) (sum-over f ls)
 
 module _ (N : Network) where
   -- the path and the weight of a line
-  abbrev route : ℕ → List End
+  abbrev pub route : ℕ → List End
   route l = pathToHV N (line l)
 
-  abbrev load : ℕ → ℕ
+  abbrev pub load : ℕ → ℕ
   load l = numbered noLine (N .lines) l .weight
 
-  abbrev lines : List ℕ
+  abbrev pub lines : List ℕ
   lines = numbers 1 (length (N .lines))
 
   -- the network with a set of places: its breakers, and by them the weight of an end, the breaker near it and the most breakers in series with it
@@ -60,7 +60,7 @@ module _ (N : Network) where
   worstAt S e = worst (pathToHV N) (vertices N) (breakersWith N S) e
 
   -- the end that is not there has no breaker
-  no-breaker : (S : List ℕ) → Valid N S → breakersWith N S noEnd ≡ false
+  pub no-breaker : (S : List ℕ) → Valid N S → breakersWith N S noEnd ≡ false
   unfolding state stateAt numbered any
   no-breaker [] v = refl
   no-breaker (p ∷ S) v = go (sameEnd noEnd (endAt N p)) refl (no-breaker S (v .1))
@@ -75,6 +75,12 @@ module _ (N : Network) where
   breakers-one S q = fun-ext (λ e. breakersWith-append N S (q ∷ []) e ∙ ap (λ b. breakersWith N S e || b) (or-false (sameEnd e (endAt N q))))
 
 module _ (N : Network) (d : Read N) (r : Rules N) where
+  pub line-ways : (l : ℕ) → List·Memᴰ l (lines N) → Way (onward N) (route N l)
+  line-ways l m = let i = numbers-in l 1 (length (N .lines)) m in way N d r (line l) (i .0, omega (arith, i .1))
+
+  vertex-ways : (u : Vertex) → List·Memᴰ u (vertices N) → Way (onward N) (pathToHV N u)
+  vertex-ways u m = way N d r u (listed-in N u m)
+
   -- the series rule with a set's breakers, by the paths to the HV station
   series-set : (S : List ℕ) → Valid N S
       → (seriesBroken (withBreakers N S) ≡ false) ↔ ((v : Vertex) → List·Memᴰ v (vertices N) → countOf (breakersWith N S) (pathToHV N v) ≤ N .head .series)
@@ -113,12 +119,6 @@ module _ (N : Network) (d : Read N) (r : Rules N) where
 
     abbrev B : End → Bool
     B = breakersWith N S
-
-    line-ways : (l : ℕ) → List·Memᴰ l (lines N) → Way (onward N) (pathToHV N (line l))
-    line-ways l m = let i = numbers-in l 1 (length (N .lines)) m in way N d r (line l) (i .0, omega (arith, i .1))
-
-    vertex-ways : (u : Vertex) → List·Memᴰ u (vertices N) → Way (onward N) (pathToHV N u)
-    vertex-ways u m = way N d r u (listed-in N u m)
 
     pub set-total : setTotal N (S ++ (q ∷ [])) + weightAt N S e * customersBehind N (nearAt N S e) ≡ setTotal N S + weightAt N S e * customersBehind N e
     set-total = omega (

@@ -66,10 +66,12 @@ module _ {A : Type 0} where
       go false ih = ih
 
 -- the values of a function that differ where what it is taken of does
-map-once : {A B : Type 0} (f : A → B) → ((x y : A) → f x ≡ f y → x ≡ y) → (xs : List A) → NoRepeat xs → NoRepeat (map f xs)
-map-once f i [] n = tt
-map-once f i (x ∷ xs) n =
-    (none-of (f x) (map f xs) (λ b m e. let g = Memᴰ·of-map f xs m in Fresh-not x (g .0) xs (n .0) (g .1) (i (g .0) x (g .2 ∙ sym e))), map-once f i xs (n .1))
+pub map-once : {A B : Type 0} (f : A → B) (xs : List A) → ((x y : A) → List·Memᴰ x xs → List·Memᴰ y xs → f x ≡ f y → x ≡ y) → NoRepeat xs → NoRepeat (map f xs)
+map-once f [] i n = tt
+map-once f (x ∷ xs) i n = (
+  none-of (f x) (map f xs) (λ b m e. let g = Memᴰ·of-map f xs m in Fresh-not x (g .0) xs (n .0) (g .1) (i (g .0) x (List·Memᴰ·tail (g .1)) (List·Memᴰ·head refl) (g .2 ∙ sym e))),
+  map-once f xs (λ y z j k e. i y z (List·Memᴰ·tail j) (List·Memᴰ·tail k) e) (n .1),
+)
 
 pub numbers-once : (from count : ℕ) → NoRepeat (numbers from count)
 unfolding numbers
@@ -104,7 +106,7 @@ module _ {A : Type 0} where
   sum-append f [] ys = omega arith
   sum-append f (x ∷ xs) ys = omega (arith, sum-append f xs ys)
 
-sum-map : {A B : Type 0} (f : B → ℕ) (g : A → B) (xs : List A) → sumOver f (map g xs) ≡ sumOver (λ x. f (g x)) xs
+pub sum-map : {A B : Type 0} (f : B → ℕ) (g : A → B) (xs : List A) → sumOver f (map g xs) ≡ sumOver (λ x. f (g x)) xs
 sum-map f g [] = refl
 sum-map f g (x ∷ xs) = ap (λ n. f (g x) + n) (sum-map f g xs)
 
@@ -141,8 +143,8 @@ module _ (N : Network) where
   vertices-once : NoRepeat (vertices N)
   unfolding stationNumbers lineNumbers
   vertices-once = append-once (map (λ s. station s) (numbers 1 (length (N .stations)))) (map (λ l. line l) (numbers 1 (length (N .lines))))
-      (map-once (λ s. station s) (λ x y e. cc) (numbers 1 (length (N .stations))) (numbers-once 1 (length (N .stations))))
-      (map-once (λ l. line l) (λ x y e. cc) (numbers 1 (length (N .lines))) (numbers-once 1 (length (N .lines))))
+      (map-once (λ s. station s) (numbers 1 (length (N .stations))) (λ x y _ _ e. cc) (numbers-once 1 (length (N .stations))))
+      (map-once (λ l. line l) (numbers 1 (length (N .lines))) (λ x y _ _ e. cc) (numbers-once 1 (length (N .lines))))
       (λ x y i j e. let f = Memᴰ·of-map (λ s. station s) (numbers 1 (length (N .stations))) i in let g = Memᴰ·of-map (λ l. line l) (numbers 1 (length (N .lines))) j in apart (f .0) (g .0) (f .2 ∙ e ∙ sym (g .2)))
     where
       apart : (s l : ℕ) → station s ≡ line l → ⊥

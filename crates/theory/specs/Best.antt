@@ -22,7 +22,7 @@ use Rattle.savings.specs.Allowed.{allowed-prefix, allowed-few, allowed-none}
 use Rattle.walks.specs.Order.{numbers-rising}
 use Rattle.walks.specs.Claims.{Asks, Fine, Answers}
 use Rattle.walks.specs.Answer.{walk-answers}
-use Rattle.theory.specs.Reading.{All, OnPlain, Read, in-turn, network-read}
+use Rattle.theory.specs.Reading.{All, OnPlain, InOrder, Read, in-turn, network-read}
 use Rattle.theory.specs.Ends.{numbers-in}
 use Rattle.theory.specs.Radial.{Rules, radial-rules, numbered-in}
 use Rattle.theory.specs.Forest.{tree}
@@ -31,6 +31,7 @@ use Rattle.theory.specs.Forest.{tree}
 pub record Accepted (N : Network) : Type 0 where
   pub read : Read N
   pub plain : All (OnPlain (N .lines)) (N .places)
+  pub order : InOrder noPlace (N .places)
   pub rules : Rules N
   pub series : seriesBroken N ≡ false
 
@@ -39,7 +40,7 @@ unfolding accepted
 accepted-is file N h =
     in-turn (networkOf file) (λ M. radial M) N h (λ M e k.
     let r = radial-rules M N k in
-    subst Accepted (r .2) (record { read = network-read file M e .0; plain = network-read file M e .1; rules = r .0; series = r .1 }))
+    subst Accepted (r .2) (record { read = network-read file M e .0; plain = network-read file M e .1; order = network-read file M e .2; rules = r .0; series = r .1 }))
 
 -- every place of a set is on an end that is not open, where every place of the list is that the set is drawn from
 valid-part : (N : Network) {S places : List ℕ} → Sublistᴰ S places → ((p : ℕ) → List·Memᴰ p places → isOpen N (endAt N p) ≡ false) → Valid N S
@@ -49,11 +50,14 @@ valid-part N (Sublistᴰ·cons-cons {a = p} e s) h = (h p (List·Memᴰ·head e)
 
 module _ (N : Network) (a : Accepted N) where
   -- a place is on a plain end
-  pub place-closed : (p : ℕ) → List·Memᴰ p (placeNumbers N) → isOpen N (endAt N p) ≡ false
+  pub place-plain : (p : ℕ) → List·Memᴰ p (placeNumbers N) → state N (endAt N p) ≡ 0
   unfolding placeNumbers placeAt state
-  place-closed p m =
+  place-plain p m =
       let i = numbers-in p 1 (length (N .places)) m in
-      ap (λ n. eqb n 2) (numbered-in (OnPlain (N .lines)) (N .places) noPlace (a .plain) p (i .0) (omega (arith, i .1)))
+      numbered-in (OnPlain (N .lines)) (N .places) noPlace (a .plain) p (i .0) (omega (arith, i .1))
+
+  pub place-closed : (p : ℕ) → List·Memᴰ p (placeNumbers N) → isOpen N (endAt N p) ≡ false
+  place-closed p m = ap (λ n. eqb n 2) (place-plain p m)
 
   pub set-valid : {S : List ℕ} → Sublistᴰ S (placeNumbers N) → Valid N S
   set-valid s = valid-part N s place-closed

@@ -150,6 +150,11 @@ pub record PlaceFits (lines : ℕ) (p : Place) : Type 0 where
 abbrev pub OnPlain : List Line → Place → Type 0
 OnPlain ls p = stateAt (numbered noLine ls (p .line)) (p .side) ≡ 0
 
+-- each place comes after the one before it, by line, then end
+abbrev pub InOrder : Place → List Place → Type 0
+InOrder before [] = Unit {0}
+InOrder before (p ∷ ps) = (comesAfter before p ≡ true) × InOrder p ps
+
 -- what a network that is read has, and has still when breakers are added
 pub record Read (N : Network) : Type 0 where
   pub head : HeadFits (N .head)
@@ -196,7 +201,7 @@ line-fits s l vs f = record {
 }
 
 place-fits : (stations lines : ℕ) (ls : List Line) (n : ℕ) (before : Place) (vs : List ℕ) → Fits stations lines rowP vs → wellPlaced ls n before (placeOf vs) ≡ true
-    → PlaceFits lines (placeOf vs) × OnPlain ls (placeOf vs) × (n < 64)
+    → PlaceFits lines (placeOf vs) × OnPlain ls (placeOf vs) × (comesAfter before (placeOf vs) ≡ true) × (n < 64)
 unfolding rowP placeOf largestOf wellPlaced
 place-fits s l ls n before vs f w =
     let p = placeOf vs in
@@ -209,33 +214,38 @@ place-fits s l ls n before vs f w =
         hours = field-within s l rowP vs f 3 (omega arith);
       },
       eqb-true _ _ (b .1),
+      b .0,
       ltb-true n 64 (a .0),
     )
 
+-- places that follow `before`, with n places in front of them
+abbrev PlacesFit : ℕ → List Line → ℕ → Place → List Place → Type 0
+PlacesFit lines ls n before ps = (n + length ps ≤ 64) × All (PlaceFits lines) ps × All (OnPlain ls) ps × InOrder before ps
+
 places-fit : (h : Head) (ls : List Line) (i n : ℕ) (before : Place) (rs : List Record) (ps : List Place) → n ≤ 64 → readPlaces h ls i n before rs ≡ given ps
-    → (n + length ps ≤ 64) × All (PlaceFits (h .lines)) ps × All (OnPlain ls) ps
+    → PlacesFit (h .lines) ls n before ps
 unfolding readPlaces kindP
-places-fit h ls i n before [] ps k q = subst (λ ps. (n + length ps ≤ 64) × All (PlaceFits (h .lines)) ps × All (OnPlain ls) ps) (given-eq [] ps q) (omega arith, tt, tt)
+places-fit h ls i n before [] ps k q = subst (PlacesFit (h .lines) ls n before) (given-eq [] ps q) (omega arith, tt, tt, tt)
 places-fit h ls i n before (r ∷ rs) ps k q =
     in-turn (readRecord (h .stations) (h .lines) i kindP r) _ ps q (λ vs e q₁.
     go (placeOf vs) (wellPlaced ls n before (placeOf vs)) refl
     (λ w. place-fits (h .stations) (h .lines) ls n before vs (record-fits (h .stations) (h .lines) i kindP r vs e) w)
     (λ qs l. places-fit h ls (i + 1) (n + 1) (placeOf vs) rs qs l) q₁)
   where
-    go : (p : Place) (b : Bool) → wellPlaced ls n before p ≡ b → (wellPlaced ls n before p ≡ true → PlaceFits (h .lines) p × OnPlain ls p × (n < 64))
-        → ((qs : List Place) → n + 1 ≤ 64 → readPlaces h ls (i + 1) (n + 1) p rs ≡ given qs → (n + 1 + length qs ≤ 64) × All (PlaceFits (h .lines)) qs × All (OnPlain ls) qs)
+    go : (p : Place) (b : Bool) → wellPlaced ls n before p ≡ b → (wellPlaced ls n before p ≡ true → PlaceFits (h .lines) p × OnPlain ls p × (comesAfter before p ≡ true) × (n < 64))
+        → ((qs : List Place) → n + 1 ≤ 64 → readPlaces h ls (i + 1) (n + 1) p rs ≡ given qs → PlacesFit (h .lines) ls (n + 1) p qs)
         → _≡_ {A = Answer (List Place)} (elim b as (λ x. Answer (List Place)) [ true ↦ readPlaces h ls (i + 1) (n + 1) p rs >>= λ ps. given (p ∷ ps) | false ↦ refused 3 i ]) (given ps)
-        → (n + length ps ≤ 64) × All (PlaceFits (h .lines)) ps × All (OnPlain ls) ps
+        → PlacesFit (h .lines) ls n before ps
     go p true w fit ih q₁ =
         in-turn (readPlaces h ls (i + 1) (n + 1) p rs) _ ps q₁ (λ qs d q₂.
         let f = fit w in
-        let t = ih qs (omega (arith, f .2)) d in
-        subst (λ ps. (n + length ps ≤ 64) × All (PlaceFits (h .lines)) ps × All (OnPlain ls) ps) (given-eq (p ∷ qs) ps q₂) (omega (arith, t .0), (f .0, t .1), (f .1, t .2)))
+        let t = ih qs (omega (arith, f .3)) d in
+        subst (PlacesFit (h .lines) ls n before) (given-eq (p ∷ qs) ps q₂) (omega (arith, t .0), (f .0, t .1), (f .1, t .2), (f .2, t .3)))
     go p false w fit ih q₁ = absurd (not-given 3 i ps q₁)
 
--- the same, with every place on a plain end
+-- the same, with every place on a plain end and the places in order
 abbrev pub ReadPlain : Network → Type 0
-ReadPlain N = Read N × All (OnPlain (N .lines)) (N .places)
+ReadPlain N = Read N × All (OnPlain (N .lines)) (N .places) × InOrder noPlace (N .places)
 
 after-head : (h : Head) (rs : List Record) (N : Network) → HeadFits h → readAfterHead h rs ≡ given N → ReadPlain N
 unfolding readAfterHead kindS kindL
@@ -260,6 +270,7 @@ after-head h rs N f q =
         places = subst (λ k. All (PlaceFits k) ps) (sym m) (pf .1);
       },
       pf .2,
+      pf .3,
     ))))
 
 file-read : (rs : List Record) (N : Network) → readFile rs ≡ given N → ReadPlain N

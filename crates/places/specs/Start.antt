@@ -1,0 +1,53 @@
+-- The weights of an accepted file's places before any is chosen.
+use Prim.Native.Nat.{ℕ}
+use mathlib.Core.Path.{_≡_, refl, sym, ap, _∙_}
+use mathlib.Core.Bool.{Bool, true, false, _||_}
+use mathlib.Core.List.{[], List·Memᴰ, List·Memᴰ·not-nil, Memᴰ·map, Memᴰ·of-map}
+use Rattle.model.specs.Network.{Network}
+use Rattle.model.specs.Paths.{End, sameEnd, state, isOpen}
+use Rattle.model.specs.Outage.{noEnd}
+use Rattle.model.specs.Sets.{placeNumbers}
+use Rattle.graphs.specs.Sum.{on, sumOver}
+use Rattle.savings.specs.Facts.{sameEnd-eq, sameEnd-refl}
+use Rattle.savings.specs.Breakers.{endAt}
+use Rattle.savings.specs.Totals.{breakersWith}
+use Rattle.theory.specs.Ends.{any-in, any-out}
+use Rattle.theory.specs.Behind.{sum-map}
+use Rattle.theory.specs.Best.{Accepted, place-closed}
+use Rattle.places.specs.Ways.{has}
+use Rattle.places.specs.Stops.{own, weight-stops}
+use Rattle.places.specs.Onward.{onward}
+use Rattle.places.specs.Sets.{route, load, lines, weightAt, underAt, no-breaker, line-ways}
+use Rattle.places.specs.Apart.{placeEnds, ends-once, place-free}
+
+-- the weight of all lines whose path meets an end first, of those with a breaker or a place
+abbrev pub ownAt : Network → End → ℕ
+ownAt N e = own (route N) (load N) (lines N) (breakersWith N []) (placeEnds N) e
+
+module _ (N : Network) (a : Accepted N) where
+  -- a place's end
+  place-of : (e : End) → has e (placeEnds N) ≡ true → (p : ℕ) × List·Memᴰ p (placeNumbers N) × (endAt N p ≡ e)
+  place-of e h =
+      let x = any-out (λ d. sameEnd d e) (placeEnds N) h in
+      let y = Memᴰ·of-map (λ p. endAt N p) (placeNumbers N) (x .1) in
+      (y .0, y .1, y .2 ∙ sameEnd-eq (x .0) e (x .2))
+
+  place-free-of : (e : End) → has e (placeEnds N) ≡ true → breakersWith N [] e ≡ false
+  place-free-of e h = let x = place-of e h in ap (breakersWith N []) (sym (x .2)) ∙ place-free N a (x .0) (x .1) [] (λ p m. absurd (List·Memᴰ·not-nil m)) tt
+
+  no-place : has noEnd (placeEnds N) ≡ false
+  unfolding state
+  no-place = go (has noEnd (placeEnds N)) refl
+    where
+      go : (b : Bool) → has noEnd (placeEnds N) ≡ b → b ≡ false
+      go true h = let x = place-of noEnd h in ap (λ e. isOpen N e) (sym (x .2)) ∙ place-closed N a (x .0) (x .1)
+      go false h = refl
+
+  -- a place's weight is the sum of what is its own and of what is that of the places under it
+  pub start-weight : (p : ℕ) → List·Memᴰ p (placeNumbers N)
+      → weightAt N [] (endAt N p) ≡ sumOver (λ s. on (sameEnd (endAt N s) (endAt N p) || underAt N [] (endAt N s) (endAt N p)) (ownAt N (endAt N s))) (placeNumbers N)
+  start-weight p m =
+      weight-stops (onward N) (breakersWith N []) (no-breaker N [] tt) (placeEnds N) place-free-of no-place (endAt N p)
+      (any-in (λ d. sameEnd d (endAt N p)) (endAt N p) (placeEnds N) (Memᴰ·map (λ p. endAt N p) m) (sameEnd-refl (endAt N p)))
+      (ends-once N a) (route N) (load N) (lines N) (line-ways N (a .read) (a .rules))
+      ∙ sum-map _ (λ s. endAt N s) (placeNumbers N)
