@@ -1,8 +1,8 @@
 pub mod Ways
 pub mod Weights
 pub mod Worst
+pub mod Stops
 pub mod Onward
 pub mod Sets
-pub mod Stops
 pub mod Apart
 pub mod Start

@@ -3,19 +3,19 @@ use mathlib.Core.Path.{_≡_, refl, sym, ap, _∙_, subst}
 use mathlib.Core.Bool.{Bool, true, false, _||_, true≢false}
 use mathlib.Core.Logic.{⊎-elim}
 use mathlib.Core.List.{List, [], _∷_}
-use Rattle.model.specs.Lists.{any}
+use Rattle.model.specs.Lists.{any, firstOr}
 use Rattle.model.specs.Network.{Network}
 use Rattle.model.specs.Paths.{Vertex, station, line, End, sameEnd, isOpen, stationAt}
-use Rattle.model.specs.Outage.{pathToHV}
+use Rattle.model.specs.Outage.{pathToHV, noEnd}
 use Rattle.graphs.specs.Tree.{Home, home-tail}
-use Rattle.savings.specs.Facts.{or-left, sameEnd-refl}
+use Rattle.savings.specs.Facts.{or-left, sameEnd-eq, sameEnd-refl}
 use Rattle.savings.specs.First.{this}
 use Rattle.theory.specs.Reading.{Read}
 use Rattle.theory.specs.Ends.{any-in, fresh-unused, Joins, out, into, joins-edges, closed-end}
 use Rattle.theory.specs.Radial.{Rules, In, Root, joins-in, listed-vertex, station-in}
 use Rattle.theory.specs.Forest.{path-home, path-next, end-first}
 use Rattle.theory.specs.Behind.{vertices}
-use Rattle.places.specs.Ways.{has, Way}
+use Rattle.places.specs.Ways.{has, Way, near}
 use Rattle.places.specs.Worst.{someBehind}
 
 -- a path, less its first end if that is e
@@ -46,6 +46,20 @@ less-none e (d ∷ ds) h = go (sameEnd d e) h
     go : (b : Bool) → (b || has e ds) ≡ false → this b ds (d ∷ ds) ≡ d ∷ ds
     go true h = absurd (true≢false h)
     go false h = refl
+
+-- the breaker near an end that has none is the first on its line's path
+less-near : (B : End → Bool) (e : End) → B e ≡ false → (es : List End) → firstOr noEnd B (less e es) ≡ firstOr noEnd B es
+unfolding firstOr
+less-near B e f [] = refl
+less-near B e f (d ∷ ds) = go (sameEnd d e) refl
+  where
+    go : (b : Bool) → sameEnd d e ≡ b → firstOr noEnd B (this b ds (d ∷ ds)) ≡ firstOr noEnd B (d ∷ ds)
+    go true h = sym (ap (λ b. this b d (firstOr noEnd B ds)) (ap B (sameEnd-eq d e h) ∙ f))
+    go false h = refl
+
+pub near-line : (N : Network) (B : End → Bool) (e : End) → B e ≡ false → near (onward N) B e ≡ firstOr noEnd B (pathToHV N (line (e .line)))
+unfolding onward
+near-line N B e f = less-near B e f (pathToHV N (line (e .line)))
 
 module _ (N : Network) (d : Read N) (r : Rules N) where
   -- each path to the HV station goes on from each of its ends as `onward` says

@@ -26,7 +26,7 @@ use Rattle.theory.specs.Above.{breakers-count, series-above}
 use Rattle.theory.specs.Behind.{vertices, listed-in}
 use Rattle.theory.specs.With.{with-read, with-rules}
 use Rattle.places.specs.Ways.{has, with, Way, near, under, near-with}
-use Rattle.places.specs.Weights.{weight, total-with, weight-with}
+use Rattle.places.specs.Weights.{weight, total-with, weight-part, weight-with}
 use Rattle.places.specs.Worst.{worst, series-with, worst-with}
 use Rattle.places.specs.Onward.{onward, way, way-onward, behind-end}
 
@@ -78,7 +78,7 @@ module _ (N : Network) (d : Read N) (r : Rules N) where
   pub line-ways : (l : ℕ) → List·Memᴰ l (lines N) → Way (onward N) (route N l)
   line-ways l m = let i = numbers-in l 1 (length (N .lines)) m in way N d r (line l) (i .0, omega (arith, i .1))
 
-  vertex-ways : (u : Vertex) → List·Memᴰ u (vertices N) → Way (onward N) (pathToHV N u)
+  pub vertex-ways : (u : Vertex) → List·Memᴰ u (vertices N) → Way (onward N) (pathToHV N u)
   vertex-ways u m = way N d r u (listed-in N u m)
 
   -- the series rule with a set's breakers, by the paths to the HV station
@@ -126,6 +126,13 @@ module _ (N : Network) (d : Read N) (r : Rules N) where
       setTotal-is N S v ∙ sum-over _ (lines N),
       setTotal-is N (S ++ (q ∷ [])) (valid-append N S (q ∷ []) v (c, tt)) ∙ ap (totalWith N) (breakers-one N S q) ∙ sum-over _ (lines N),
       total-with (route N) (load N) (onward N) B e (no-breaker N S v) f (λ d. customersBehind N d) (lines N) line-ways,
+    )
+
+    pub set-part : weightAt N S e * customersBehind N (nearAt N S e) ≤ setTotal N S
+    set-part = omega (
+      arith,
+      setTotal-is N S v ∙ sum-over _ (lines N),
+      weight-part (route N) (load N) (onward N) B e (no-breaker N S v) f (λ d. customersBehind N d) (lines N) line-ways,
     )
 
     pub set-near : (p : End) → isOpen N p ≡ false → nearAt N (S ++ (q ∷ [])) p ≡ this (underAt N S p e) e (nearAt N S p)

@@ -21,6 +21,13 @@ abbrev pub covers : (End → Bool) → End → List End → Bool
 covers B q [] = false
 covers B q (e ∷ es) = sameEnd e q || (not (B e) && covers B q es)
 
+-- what a breaker would trip for passes it
+pub covers-has : (B : End → Bool) (q : End) (es : List End) → covers B q es ≡ true → has q es ≡ true
+unfolding any
+covers-has B q [] h = h
+covers-has B q (e ∷ es) h = or-cases (sameEnd e q) (not (B e) && covers B q es) (λ s. or-left (sameEnd e q) (has q es) s)
+    (λ s. or-right (sameEnd e q) (has q es) (covers-has B q es (both (not (B e)) (covers B q es) s .1))) h
+
 -- a path that passes no end twice and goes on from each end as `up` says
 abbrev pub Way : (End → List End) → List End → Type 0
 Way up [] = Unit {0}

@@ -1,16 +1,16 @@
 -- The total and the weights by places: how they change with one more breaker.
-use Prim.Native.Nat.{ℕ, _+_, _*_}
+use Prim.Native.Nat.{ℕ, _+_, _*_, _≤_}
 use mathlib.Core.Path.{_≡_, refl, sym, ap, _∙_}
 use mathlib.Core.Bool.{Bool, true, false, not, _&&_, _||_, true≢false}
 use mathlib.Core.List.{List, [], _∷_, List·Memᴰ, List·Memᴰ·head, List·Memᴰ·tail}
 use native.Mathlib.Omega.{arith}
-use Rattle.model.specs.Lists.{any, firstOr}
+use Rattle.model.specs.Lists.{firstOr}
 use Rattle.model.specs.Paths.{End, sameEnd}
 use Rattle.model.specs.Outage.{noEnd}
 use Rattle.graphs.specs.Sum.{on, sumOver, sum-ext, sum-zero, sum-add}
-use Rattle.savings.specs.Facts.{or-left, or-right, or-cases, both, sameEnd-eq}
+use Rattle.savings.specs.Facts.{or-cases, both, sameEnd-eq}
 use Rattle.savings.specs.First.{this}
-use Rattle.places.specs.Ways.{has, with, covers, Way, near, under, first-with, has-onward, covers-is, covered}
+use Rattle.places.specs.Ways.{has, with, covers, covers-has, Way, near, under, first-with, has-onward, covers-is, covered}
 
 -- a sum that is counted if a test passes, number by number
 pub on-sum : (c : Bool) (f : ℕ → ℕ) (ls : List ℕ) → on c (sumOver f ls) ≡ sumOver (λ l. on c (f l)) ls
@@ -20,13 +20,6 @@ on-sum false f ls = sym (sum-zero (λ l. 0) ls (λ l m. refl))
 pub on-nought : (c : Bool) (n : ℕ) → n + on c 0 ≡ n
 on-nought true n = omega arith
 on-nought false n = omega arith
-
--- what a breaker would trip for passes it
-pub covers-has : (B : End → Bool) (q : End) (es : List End) → covers B q es ≡ true → has q es ≡ true
-unfolding any
-covers-has B q [] h = h
-covers-has B q (e ∷ es) h = or-cases (sameEnd e q) (not (B e) && covers B q es) (λ s. or-left (sameEnd e q) (has q es) s)
-    (λ s. or-right (sameEnd e q) (has q es) (covers-has B q es (both (not (B e)) (covers B q es) s .1))) h
 
 module _ (up : End → List End) (B : End → Bool) (q : End) (f : B q ≡ false) where
   -- With a breaker at q, p's trips no longer for the paths for which q's does, where p's tripped for what lies behind q.
@@ -39,7 +32,7 @@ module _ (up : End → List End) (B : End → Bool) (q : End) (f : B q ≡ false
           → on (s || (not (b || t) && covers (with B q) p es)) n + on (covers B p (up q)) (on (t || (not b && covers B q es)) n) ≡ on (s || (not b && covers B p es)) n
       go true t b s h _ ih = none (covers B p (up q)) (t || (not b && covers B q es)) refl refl
         where
-          -- what lies onward from q is onward from p, so p is not there
+          -- were p onward from q, the path would pass p again
           onward : (t || (not b && covers B q es)) ≡ true → has p (up q) ≡ true → has p es ≡ true
           onward k m = or-cases t (not b && covers B q es) (λ x. ap (has p) (w .0 ∙ ap up (sameEnd-eq e q (h ∙ x))) ∙ m)
               (λ x. has-onward up q p es (w .2) (covers-has B q es (both (not b) (covers B q es) x .1)) m) k
@@ -78,6 +71,15 @@ module _ (path : ℕ → List End) (w : ℕ → ℕ) where
           ap (λ x. w l * value x) (covered up B q n f (path l) (ways l (List·Memᴰ·head refl)) c),
         )
         one false c = omega (arith, ap (λ x. w l * value x) (first-with B q (path l) ∙ ap (λ x. this x q (firstOr noEnd B (path l))) c))
+
+    -- The amount that is lost for what gets lower is part of the total.
+    pub weight-part : (value : End → ℕ) (ls : List ℕ) → ((l : ℕ) → List·Memᴰ l ls → Way up (path l)) → weight ls B q * value (near up B q) ≤ totalBy value ls B
+    weight-part value [] ways = omega arith
+    weight-part value (l ∷ ls) ways = omega (arith, one (covers B q (path l)) refl, weight-part value ls (λ k m. ways k (List·Memᴰ·tail m)))
+      where
+        one : (c : Bool) → covers B q (path l) ≡ c → on c (w l) * value (near up B q) ≤ w l * value (firstOr noEnd B (path l))
+        one true c = omega (arith, ap (λ x. w l * value x) (covered up B q n f (path l) (ways l (List·Memᴰ·head refl)) c))
+        one false c = omega arith
 
     -- Weights: one more breaker at q takes its weight from that of an end p that q is under.
     pub weight-with : (p : End) → B p ≡ false → Way up (up q) → (ls : List ℕ) → ((l : ℕ) → List·Memᴰ l ls → Way up (path l))
