@@ -47,7 +47,6 @@ less-none e (d ∷ ds) h = go (sameEnd d e) h
     go true h = absurd (true≢false h)
     go false h = refl
 
--- the breaker near an end that has none is the first on its line's path
 less-near : (B : End → Bool) (e : End) → B e ≡ false → (es : List End) → firstOr noEnd B (less e es) ≡ firstOr noEnd B es
 unfolding firstOr
 less-near B e f [] = refl
@@ -57,6 +56,7 @@ less-near B e f (d ∷ ds) = go (sameEnd d e) refl
     go true h = sym (ap (λ b. this b d (firstOr noEnd B ds)) (ap B (sameEnd-eq d e h) ∙ f))
     go false h = refl
 
+-- the breaker near an end that has none is the first on its line's path
 pub near-line : (N : Network) (B : End → Bool) (e : End) → B e ≡ false → near (onward N) B e ≡ firstOr noEnd B (pathToHV N (line (e .line)))
 unfolding onward
 near-line N B e f = less-near B e f (pathToHV N (line (e .line)))

@@ -120,6 +120,7 @@ module _ (N : Network) (d : Read N) (r : Rules N) where
     abbrev B : End → Bool
     B = breakersWith N S
 
+    -- the total falls by the place's weight times the customers that its breaker spares
     pub set-total : setTotal N (S ++ (q ∷ [])) + weightAt N S e * customersBehind N (nearAt N S e) ≡ setTotal N S + weightAt N S e * customersBehind N e
     set-total = omega (
       arith,
@@ -128,6 +129,7 @@ module _ (N : Network) (d : Read N) (r : Rules N) where
       total-with (route N) (load N) (onward N) B e (no-breaker N S v) f (λ d. customersBehind N d) (lines N) line-ways,
     )
 
+    -- what it falls from is part of the total
     pub set-part : weightAt N S e * customersBehind N (nearAt N S e) ≤ setTotal N S
     set-part = omega (
       arith,
@@ -135,20 +137,24 @@ module _ (N : Network) (d : Read N) (r : Rules N) where
       weight-part (route N) (load N) (onward N) B e (no-breaker N S v) f (λ d. customersBehind N d) (lines N) line-ways,
     )
 
+    -- the breaker near an end: the new one, where the end is under it
     pub set-near : (p : End) → isOpen N p ≡ false → nearAt N (S ++ (q ∷ [])) p ≡ this (underAt N S p e) e (nearAt N S p)
     set-near p o = ap (λ C. near (onward N) C p) (breakers-one N S q) ∙ near-with (onward N) B p e (no-breaker N S v) f (way-onward N d r p o)
 
+    -- the weight of an end: less that of the place, where the place is under it
     pub set-weight : (p : End) → B p ≡ false → weightAt N (S ++ (q ∷ [])) p + on (underAt N S e p) (weightAt N S e) ≡ weightAt N S p
     set-weight p g =
         ap (λ C. weight (route N) (load N) (lines N) C p + on (underAt N S e p) (weightAt N S e)) (breakers-one N S q)
         ∙ weight-with (route N) (load N) (onward N) B e (no-breaker N S v) f p g (way-onward N d r e c) (lines N) line-ways
 
+    -- the most breakers in series with an end
     pub set-worst : (p : End) → isOpen N p ≡ false → p ≢ e
         → worstAt N (S ++ (q ∷ [])) p ≡ this (has e (onward N p)) (worstAt N S p + 1) (this (has p (onward N e)) (max (worstAt N S p) (worstAt N S e + 1)) (worstAt N S p))
     set-worst p o n =
         ap (λ C. worst (pathToHV N) (vertices N) C p) (breakers-one N S q)
         ∙ worst-with (pathToHV N) (onward N) (vertices N) vertex-ways B e f p n (behind-end N d r p o) (behind-end N d r e c)
 
+    -- the series rule: it held, and fewer than `series` are in series with the place
     pub set-series : (seriesBroken (withBreakers N (S ++ (q ∷ []))) ≡ false) ↔ ((seriesBroken (withBreakers N S) ≡ false) × (worstAt N S e < N .head .series))
     set-series =
         let old = series-set S v in
