@@ -6,3 +6,4 @@ pub mod Onward
 pub mod Sets
 pub mod Apart
 pub mod Start
+pub mod Held
