@@ -1,0 +1,376 @@
+//! Compares two implementations of the calls, file by file.
+
+use crate::calls::{Calls, ANSWER, MEMBERS, TEXT};
+use crate::file::LONGEST;
+use crate::network::Network;
+use crate::random::Random;
+use crate::subsets::{self, Allowed};
+use crate::walk::{self, Answer};
+use std::cell::RefCell;
+
+#[derive(Clone, Copy, Debug)]
+pub enum Call {
+    Check,
+    Impact { line: u64 },
+    Total,
+    Search { members: usize },
+    Report { text: usize },
+    Ceiling { places: u64, additions: u64 },
+    Program { piece: usize },
+}
+
+/// A call, the length of the answer lent to it, and what the lent buffers are filled with.
+#[derive(Clone, Copy, Debug)]
+pub struct Asked {
+    pub call: Call,
+    pub answer: usize,
+    pub fill: u64,
+}
+
+/// What a call left behind.
+#[derive(PartialEq, Eq)]
+struct Left {
+    returned: bool,
+    answer: Vec<u64>,
+    members: Vec<u64>,
+    text: Vec<u8>,
+}
+
+/// Numbers on either side of each lent buffer, which no call may touch.
+const MARGIN: usize = 8;
+
+fn filled(fill: u64, length: usize) -> Vec<u64> {
+    let mut r = Random::of(fill, length as u64);
+    (0..length + 2 * MARGIN).map(|_| r.next()).collect()
+}
+
+fn filled_text(fill: u64, length: usize) -> Vec<u8> {
+    let mut r = Random::of(fill, length as u64);
+    let mut text = Vec::with_capacity(length + 2 * MARGIN + 8);
+    while text.len() < length + 2 * MARGIN {
+        text.extend_from_slice(&r.next().to_le_bytes());
+    }
+    text.truncate(length + 2 * MARGIN);
+    text
+}
+
+fn inner<T>(buffer: &mut [T]) -> &mut [T] {
+    let end = buffer.len() - MARGIN;
+    &mut buffer[MARGIN..end]
+}
+
+/// Lent buffers and what they were filled with.
+fn lend(asked: &Asked) -> Left {
+    let members = if let Call::Search { members } = asked.call { members } else { 0 };
+    let text = if let Call::Report { text } = asked.call { text } else { 0 };
+    Left {
+        returned: false,
+        answer: filled(asked.fill, asked.answer),
+        members: filled(asked.fill ^ 1, members),
+        text: filled_text(asked.fill ^ 2, text),
+    }
+}
+
+fn ask(side: &dyn Calls, file: &[u8], asked: &Asked, mut left: Left) -> Left {
+    let answer = inner(&mut left.answer);
+    left.returned = match asked.call {
+        Call::Check => side.check(file, answer),
+        Call::Impact { line } => side.impact(file, line, answer),
+        Call::Total => side.total(file, answer),
+        Call::Search { .. } => side.search(file, inner(&mut left.members), answer),
+        Call::Report { .. } => side.report(file, inner(&mut left.text), answer),
+        Call::Ceiling { places, additions } => side.ceiling(places, additions, answer),
+        Call::Program { piece } => {
+            // A side without the program leaves nothing.
+            left.text = side.program(file, piece).unwrap_or_default();
+            true
+        }
+    };
+    left
+}
+
+/// The numbers of an answer of this call, refused or not.
+fn answer_count(call: &Call, answer: &[u64]) -> usize {
+    if answer[0] != 0 {
+        return 2;
+    }
+    2 + match call {
+        Call::Check => 0,
+        Call::Impact { .. } | Call::Report { .. } | Call::Ceiling { .. } => 1,
+        Call::Total => 2,
+        _ => 4,
+    }
+}
+
+/// The first place where a call wrote what it must not, by the answer that it gave.
+fn stray_write(asked: &Asked, before: &Left, after: &Left) -> Option<String> {
+    if matches!(asked.call, Call::Program { .. }) {
+        return None;
+    }
+    let lent = asked.answer;
+    if after.returned != (lent >= ANSWER) {
+        return Some(format!("returned {}", after.returned));
+    }
+    let mut free = 0;
+    let (mut members, mut text) = (0, 0);
+    if after.returned {
+        let answer = &after.answer[MARGIN..MARGIN + lent];
+        free = answer_count(&asked.call, answer);
+        if answer[0] == 0 {
+            match asked.call {
+                Call::Search { .. } => members = answer[3] as usize,
+                Call::Report { .. } => text = answer[2] as usize,
+                _ => {}
+            }
+        }
+    }
+    fn outside<T: PartialEq>(before: &[T], after: &[T], free: usize) -> Option<usize> {
+        (0..before.len()).find(|&i| (i < MARGIN || i >= MARGIN.saturating_add(free)) && before[i] != after[i])
+    }
+    let names = ["answer", "members", "text"];
+    let strays = [
+        outside(&before.answer, &after.answer, free),
+        outside(&before.members, &after.members, members),
+        outside(&before.text, &after.text, text),
+    ];
+    names.iter().zip(strays).find_map(|(name, at)| at.map(|i| format!("wrote to {name}[{}]", i as i64 - MARGIN as i64)))
+}
+
+fn shown(asked: &Asked, left: &Left) -> String {
+    if matches!(asked.call, Call::Program { .. }) {
+        return printable(&left.text);
+    }
+    if !left.returned {
+        return format!("false, answer {:?}", &left.answer[MARGIN..left.answer.len() - MARGIN]);
+    }
+    let count = answer_count(&asked.call, &left.answer[MARGIN..]).min(asked.answer);
+    let answer = &left.answer[MARGIN..MARGIN + count];
+    let members = answer.get(3).map_or(0, |&n| n as usize).min(left.members.len() - 2 * MARGIN);
+    let text = answer.get(2).map_or(0, |&n| n as usize).min(left.text.len() - 2 * MARGIN);
+    let mut out = format!("true, {answer:?}");
+    match asked.call {
+        Call::Search { .. } => out += &format!(", members {:?}", &left.members[MARGIN..MARGIN + members]),
+        Call::Report { .. } => out += &format!(", text {}", printable(&left.text[MARGIN..MARGIN + text])),
+        _ => {}
+    }
+    out
+}
+
+/// Bytes with `|` for a newline and other bytes that cannot be printed by their number.
+pub fn printable(bytes: &[u8]) -> String {
+    let shown = |&b: &u8| match b {
+        b'\n' => "|".to_string(),
+        b' '..=b'~' => char::from(b).to_string(),
+        _ => format!("\\x{b:02x}"),
+    };
+    if bytes.len() > 4_000 {
+        let start: String = bytes[..3_000].iter().map(shown).collect();
+        return format!("{start}.. ({} bytes)", bytes.len());
+    }
+    bytes.iter().map(shown).collect()
+}
+
+/// A difference between the two sides, or between the engine and demand 3.
+pub struct Difference {
+    pub asked: Asked,
+    pub second: String,
+    pub engine: String,
+}
+
+/// Which comparisons are made.
+#[derive(Clone, Copy, PartialEq, Eq)]
+pub enum Against {
+    Both,
+    /// Only what demand 3 says of Search's answer
+    Demand,
+}
+
+pub struct Comparison<'a> {
+    pub second: &'a dyn Calls,
+    pub engine: &'a dyn Calls,
+    pub against: Against,
+    pub files: u64,
+    pub calls: u64,
+    /// Answers of Search that were held to every subset of the places
+    pub tried: u64,
+    /// How often each refusal was given by Check, 0 for none
+    pub refusals: [u64; 10],
+    /// Files of which Search was spent
+    pub spent: u64,
+    lent_file: RefCell<Vec<u8>>,
+}
+
+/// How many calls a file is given to.
+#[derive(Clone, Copy, PartialEq, Eq)]
+pub enum Depth {
+    /// Check and one other
+    Shallow,
+    Full,
+    /// The program too
+    Marked,
+}
+
+/// The most visits that a search of the comparison may take.
+const MOST_VISITS: u64 = 30_000;
+/// The most steps for trying every subset.
+const MOST_EFFORT: u64 = 1_000_000;
+
+impl<'a> Comparison<'a> {
+    pub fn new(second: &'a dyn Calls, engine: &'a dyn Calls, against: Against) -> Comparison<'a> {
+        Comparison {
+            second,
+            engine,
+            against,
+            files: 0,
+            calls: 0,
+            tried: 0,
+            refusals: [0; 10],
+            spent: 0,
+            lent_file: RefCell::new(Vec::new()),
+        }
+    }
+
+    /// One call on both sides. `demand` holds a network and its allowed sets for Search's answer to be held to.
+    pub fn differs(&self, file: &[u8], asked: &Asked, demand: Option<(&Network, Option<&Allowed>)>) -> Option<Difference> {
+        let before = lend(asked);
+        // The engine's file lies between bytes that would change the answer if they were read.
+        let mut lent = self.lent_file.borrow_mut();
+        lent.clear();
+        lent.extend_from_slice(b"N,1,0,90,3,0,0,0,1\n");
+        let start = lent.len();
+        lent.extend_from_slice(file);
+        let end = lent.len();
+        lent.extend_from_slice(b"0\nP,1,1,1,1\nS,1,0\n");
+        let engine = ask(self.engine, &lent[start..end], asked, lend(asked));
+        let difference = |second: String, engine: String| Some(Difference { asked: *asked, second, engine });
+        if let (Call::Search { .. }, Some((network, allowed)), true) = (asked.call, demand, engine.returned) {
+            let answer = &engine.answer[MARGIN..MARGIN + asked.answer];
+            if answer[0] == 0 {
+                let count = (answer[3] as usize).min(engine.members.len() - 2 * MARGIN);
+                let members = engine.members[MARGIN..MARGIN + count].iter().map(|&m| m as usize).collect();
+                let answered = Answer { finished: answer[2] == 1, members, total: answer[4], visits: answer[5] };
+                if let Some(fault) = subsets::fault_of(network, &answered, allowed) {
+                    return difference(format!("demand 3: {fault}"), shown(asked, &engine));
+                }
+            }
+        }
+        if self.against == Against::Demand {
+            return None;
+        }
+        if matches!(asked.call, Call::Program { .. }) && engine.text.is_empty() && self.engine.program(b"", 1).is_none() {
+            return None;
+        }
+        let second = ask(self.second, file, asked, lend(asked));
+        if second != engine {
+            return difference(shown(asked, &second), shown(asked, &engine));
+        }
+        if let Some(stray) = stray_write(asked, &before, &engine) {
+            return difference("no such write".into(), stray);
+        }
+        None
+    }
+
+    /// All calls on a file that the depth asks for.
+    pub fn file(&mut self, file: &[u8], depth: Depth, r: &mut Random) -> Option<Difference> {
+        self.files += 1;
+        let network = Network::read(file, None);
+        self.refusals[network.as_ref().map_or_else(|refusal| refusal.number as usize, |_| 0)] += 1;
+        let mut ends_soon = true;
+        let mut allowed = None;
+        if let Ok(network) = &network {
+            let answer = walk::search_within(network, network.file.visits.min(MOST_VISITS));
+            ends_soon = answer.finished || network.file.visits <= MOST_VISITS;
+            self.spent += u64::from(!answer.finished);
+            if ends_soon && subsets::effort(network) <= MOST_EFFORT {
+                allowed = Some(subsets::allowed_sets(network));
+                self.tried += 1;
+            }
+        }
+        let network = network.ok();
+        for asked in plan(network.as_ref(), depth, r) {
+            if !ends_soon && matches!(asked.call, Call::Search { .. } | Call::Report { .. } | Call::Program { .. }) {
+                continue;
+            }
+            self.calls += 1;
+            let demand = network.as_ref().map(|n| (n, allowed.as_ref()));
+            let difference = self.differs(file, &asked, demand);
+            if difference.is_some() {
+                return difference;
+            }
+        }
+        None
+    }
+
+    /// Ceiling of all its numbers and some outside.
+    pub fn ceilings(&mut self) -> Option<Difference> {
+        let outside = [66, 128, 1 << 32, (1 << 32) + 3, u64::MAX - 1, u64::MAX];
+        for places in (0..=65).chain(outside) {
+            for additions in (0..=17).chain([32, 64, 65]).chain(outside) {
+                let answer = if additions < 12 && places % 9 == 0 { additions as usize } else { ANSWER };
+                let asked = Asked { call: Call::Ceiling { places, additions }, answer, fill: places ^ additions << 8 };
+                self.calls += 1;
+                let difference = self.differs(b"", &asked, None);
+                if difference.is_some() {
+                    return difference;
+                }
+            }
+        }
+        None
+    }
+
+    /// Whether a call on a changed file differs; searches that do not end soon are left out.
+    pub fn still_differs(&self, file: &[u8], asked: &Asked) -> Option<Difference> {
+        let network = Network::read(file, None).ok();
+        let mut allowed = None;
+        if let Some(network) = &network {
+            if network.file.visits > MOST_VISITS && !walk::search_within(network, MOST_VISITS).finished {
+                return None;
+            }
+            if matches!(asked.call, Call::Search { .. }) && subsets::effort(network) <= MOST_EFFORT {
+                allowed = Some(subsets::allowed_sets(network));
+            }
+        }
+        self.differs(file, asked, network.as_ref().map(|n| (n, allowed.as_ref())))
+    }
+}
+
+/// The calls on a file.
+fn plan(network: Option<&Network>, depth: Depth, r: &mut Random) -> Vec<Asked> {
+    let lines = network.map_or(r.between(0, 9), |n| n.file.lines.len() as u64);
+    let mut calls = vec![Call::Check];
+    let search = Call::Search { members: MEMBERS };
+    let report = Call::Report { text: TEXT };
+    match depth {
+        Depth::Shallow => match r.below(5) {
+            0 => calls.push(Call::Impact { line: r.pick(&[0, 1, 2, lines, lines + 1, u64::MAX]) }),
+            1 => calls.push(Call::Total),
+            2 => calls.push(search),
+            3 => calls.push(report),
+            _ => {}
+        },
+        Depth::Full | Depth::Marked => {
+            calls.extend([Call::Total, search, report]);
+            calls.extend([0, lines, lines + 1, u64::MAX].map(|line| Call::Impact { line }));
+            if network.is_some() {
+                let step = 1 + lines as usize / 12;
+                calls.extend((1..lines).step_by(step).map(|line| Call::Impact { line }));
+                calls.push(Call::Impact { line: lines + r.pick(&[1, 2, 256, 1 << 16, 1 << 32, 1 << 63]) });
+            }
+            if r.once_in(3) || depth == Depth::Marked {
+                calls.push(Call::Search { members: r.pick(&[0, 1, 2, 14, 15, 15, 17, 17, 18, 31, 64, 100]) });
+                calls.push(Call::Report { text: r.pick(&[0, 1, 100, TEXT - 1, TEXT - 1, TEXT + 1, TEXT + 1, LONGEST + 5_000]) });
+            }
+            if depth == Depth::Marked || r.once_in(16) {
+                calls.push(Call::Program { piece: r.pick(&[1, 2, 7, 100, 4_096, usize::MAX, usize::MAX, usize::MAX]) });
+            }
+        }
+    }
+    let odd_answers = r.once_in(4);
+    calls
+        .into_iter()
+        .map(|call| {
+            let answer = if odd_answers && r.once_in(2) { r.pick(&[0, 1, 2, 3, 4, 5, 5, 7, 8, 12]) } else { ANSWER };
+            Asked { call, answer, fill: r.next() >> 8 }
+        })
+        .collect()
+}

@@ -1,0 +1,271 @@
+//! Random network files that are accepted.
+
+use crate::file::{BREAKER, OPEN, PLAIN};
+use crate::network::Network;
+use crate::random::Random;
+use crate::walk;
+
+pub const HEAD_LIMITS: [u64; 8] = [512, 768, 1_440, 8, 16, 100_000_000, 100_000, 1_000_000_000];
+
+/// A file's numbers, record by record.
+#[derive(Clone, Default)]
+pub struct Draft {
+    /// minutes, series, adds, money, hours, visits
+    pub head: [u64; 6],
+    /// role, customers
+    pub stations: Vec<[u64; 2]>,
+    /// weight, from, to, state1, state2
+    pub lines: Vec<[u64; 5]>,
+    /// line, end, cost, hours
+    pub places: Vec<[u64; 4]>,
+}
+
+pub const MINUTES: usize = 0;
+pub const SERIES: usize = 1;
+pub const ADDS: usize = 2;
+pub const MONEY: usize = 3;
+pub const HOURS: usize = 4;
+pub const VISITS: usize = 5;
+
+impl Draft {
+    pub fn bytes(&self) -> Vec<u8> {
+        let mut text = String::new();
+        let mut record = |kind: char, numbers: &[u64]| {
+            text.push(kind);
+            for n in numbers {
+                text.push(',');
+                text.push_str(&n.to_string());
+            }
+            text.push('\n');
+        };
+        let counts = [self.stations.len() as u64, self.lines.len() as u64];
+        record('N', &[&counts[..], &self.head[..]].concat());
+        self.stations.iter().for_each(|s| record('S', s));
+        self.lines.iter().for_each(|l| record('L', l));
+        self.places.iter().for_each(|p| record('P', p));
+        text.into_bytes()
+    }
+
+    pub fn is_hv(&self, station: u64) -> bool {
+        self.stations.get((station as usize).wrapping_sub(1)).is_some_and(|s| s[0] == 1)
+    }
+
+    /// Whether a place is on a plain end.
+    pub fn on_plain(&self, place: &[u64; 4]) -> bool {
+        let line = self.lines.get((place[0] as usize).wrapping_sub(1));
+        (1..=2).contains(&place[1]) && line.is_some_and(|l| l[place[1] as usize + 2] == PLAIN)
+    }
+}
+
+/// About how large a network is to be.
+#[derive(Clone, Copy, PartialEq, Eq, Debug)]
+pub enum Size {
+    Small,
+    Middle,
+    Large,
+    Full,
+}
+
+/// Numbers of one field: all 0, all equal, few different (so that sums tie), any, or near the largest.
+fn numbers(r: &mut Random, count: usize, largest: u64) -> Vec<u64> {
+    let way = r.below(8);
+    let common = r.between(0, largest);
+    (0..count)
+        .map(|_| match way {
+            0 => 0,
+            1 => common,
+            2 => r.between(0, 2.min(largest)),
+            3 | 4 => r.between(0, 9.min(largest)),
+            5 => r.between(0, largest),
+            6 => r.pick(&[0, 0, 1, largest]),
+            _ => largest - r.between(0, 1.min(largest)),
+        })
+        .collect()
+}
+
+/// For each MV station, as numbers from `hv` on, the station that feeds it.
+fn feeders(r: &mut Random, stations: usize, hv: usize) -> Vec<usize> {
+    let shape = r.below(8);
+    let reach = 1 + r.below(4);
+    let main = hv + 1 + r.below(stations);
+    (hv..stations)
+        .map(|s| match shape {
+            // Chains, one from each HV station
+            0 => if s < 2 * hv { s - hv } else { s - hv },
+            // Stars
+            1 => r.below(hv),
+            // Bushes: each near the one before
+            2 => s - 1 - r.below(reach.min(s)),
+            // A feeder with laterals
+            3 => if s < main { if s == hv { 0 } else { s - 1 } } else if r.once_in(3) { r.below(main.min(s)) } else { s - 1 },
+            // Two from each
+            4 => (s - hv) / 2,
+            // Deep, with branches
+            5 => if r.once_in(6) { r.below(s) } else { s - 1 },
+            // Stars of stars
+            6 => if r.once_in(4) { r.below(hv) } else { r.below(s.min(hv + 4)) },
+            // Random trees
+            _ => r.below(s),
+        })
+        .collect()
+}
+
+/// An accepted network. Its limit of visits lets the search end soon.
+pub fn network(r: &mut Random, size: Size) -> Draft {
+    let (stations, most_lines) = match size {
+        Size::Small => (1 + r.below(7), 10),
+        Size::Middle => (2 + r.below(40), 70),
+        Size::Large => (40 + r.below(473), 768),
+        Size::Full => (512, 768),
+    };
+    let hv = match r.below(6) {
+        0 => 1 + r.below(stations.min(5)),
+        1 => 1 + r.below(stations.min(2)),
+        _ => 1,
+    };
+    let series = r.between(1, 8);
+    let breakers_near = r.pick(&[0, 0, 2, 6, 20]);
+    let breakers_far = r.pick(&[0, 0, 0, 3, 9]);
+    let is_breaker = |r: &mut Random, rate: usize| rate > 0 && r.once_in(rate);
+
+    // Stations from the HV stations outwards, each with the breakers on its path.
+    let mut passed = vec![0; stations];
+    let mut lines = Vec::new();
+    for (i, feeder) in feeders(r, stations, hv).into_iter().enumerate() {
+        let station = hv + i;
+        let mut count = passed[feeder];
+        let mut state = |r: &mut Random, rate: usize, must: bool| {
+            if must || count < series && is_breaker(r, rate) {
+                count += 1;
+                return BREAKER;
+            }
+            PLAIN
+        };
+        let near = state(r, breakers_near, feeder < hv);
+        let far = state(r, breakers_far, false);
+        passed[station] = count;
+        lines.push([feeder as u64, station as u64, near, far]);
+    }
+    // Lines with one open end: to any station, to their own, several to the same.
+    let spare = most_lines - lines.len().min(most_lines);
+    let hanging = match (size, r.below(4)) {
+        (Size::Full, _) => spare,
+        (_, 0) => 0,
+        (_, 1) => r.below(spare + 1),
+        _ => r.below(spare.min(3) + 1),
+    };
+    for i in 0..hanging {
+        let (near, far) = match lines.last() {
+            Some(last) if i > 0 && r.once_in(4) => (last[0] as usize, last[1]),
+            _ => (r.below(stations), if r.once_in(8) { stations as u64 } else { r.below(stations) as u64 }),
+        };
+        let far = if far == stations as u64 { near as u64 } else { far };
+        let breaker = near < hv || passed[near] < series && is_breaker(r, breakers_near.max(breakers_far));
+        lines.push([near as u64, far, if breaker { BREAKER } else { PLAIN }, OPEN]);
+    }
+    let longest = {
+        let on = |l: &[u64; 4]| passed[l[0] as usize] + u64::from(l[2] == BREAKER) + u64::from(l[3] == BREAKER);
+        lines.iter().map(on).max().unwrap_or(0)
+    };
+
+    // Numbers of stations and lines, and which end is end 1
+    let mut names: Vec<u64> = (1..=stations as u64).collect();
+    if !r.once_in(3) {
+        r.shuffle(&mut names);
+    }
+    if !r.once_in(3) {
+        r.shuffle(&mut lines);
+    }
+    let turning = r.below(3);
+    let weights = numbers(r, lines.len(), 1_000_000);
+    let customers = numbers(r, stations, 20_000);
+    let mut draft = Draft::default();
+    draft.stations = vec![[0; 2]; stations];
+    for s in 0..stations {
+        draft.stations[names[s] as usize - 1] = if s < hv { [1, 0] } else { [0, customers[s]] };
+    }
+    for (l, weight) in lines.iter().zip(weights) {
+        let (from, to) = (names[l[0] as usize], names[l[1] as usize]);
+        let turned = turning == 1 || turning == 2 && r.once_in(2);
+        draft.lines.push(if turned { [weight, to, from, l[3], l[2]] } else { [weight, from, to, l[2], l[3]] });
+    }
+
+    places(r, &mut draft, size);
+    let near_limit = r.pick(&[longest, longest, longest + 1, series.max(longest), 8]);
+    draft.head[SERIES] = near_limit.clamp(longest.max(1), 8);
+    draft.head[MINUTES] = r.pick(&[0, 1, 90, 1_440, 777]);
+    limit_visits(r, &mut draft, size);
+    draft
+}
+
+/// Places, and the bounds on sets of them.
+fn places(r: &mut Random, draft: &mut Draft, size: Size) {
+    let mut plain = Vec::new();
+    for (l, line) in draft.lines.iter().enumerate() {
+        for end in [1, 2] {
+            if line[end as usize + 2] == PLAIN {
+                plain.push([l as u64 + 1, end]);
+            }
+        }
+    }
+    let wanted = match (size, r.below(4)) {
+        (_, 0) => r.below(4),
+        (Size::Small, _) => r.below(11),
+        (Size::Middle, _) => r.below(24),
+        (Size::Large, _) => r.below(65),
+        (Size::Full, _) => 64,
+    };
+    let mut chosen = plain;
+    r.shuffle(&mut chosen);
+    chosen.truncate(wanted);
+    chosen.sort_unstable();
+    let costs = numbers(r, chosen.len(), 1_000_000);
+    let hours = numbers(r, chosen.len(), 1_000);
+    draft.places = (0..chosen.len()).map(|p| [chosen[p][0], chosen[p][1], costs[p], hours[p]]).collect();
+
+    draft.head[ADDS] = match r.below(6) {
+        0 => r.between(0, 16),
+        1 => 1,
+        2 => 16,
+        _ => r.between(0, 5),
+    };
+    for (bound, field, largest) in [(MONEY, 2, 100_000_000), (HOURS, 3, 100_000)] {
+        // Some set's sum, or one less; or no bound; or any
+        let mut members = draft.places.clone();
+        r.shuffle(&mut members);
+        members.truncate(r.below(draft.head[ADDS] as usize + 2));
+        let sum: u64 = members.iter().map(|p| p[field]).sum();
+        draft.head[bound] = match r.below(8) {
+            0 => sum,
+            1 => sum.saturating_sub(1),
+            2 => sum + 1,
+            3 => r.between(0, 2 * sum + 1),
+            4 => 0,
+            _ => largest,
+        }
+        .min(largest);
+    }
+}
+
+/// A limit of visits, often just at what the walk needs.
+fn limit_visits(r: &mut Random, draft: &mut Draft, size: Size) {
+    let most = match (size, r.below(12)) {
+        (_, 0) => 20_000,
+        (Size::Small | Size::Middle, _) => 2_000,
+        _ => 600,
+    };
+    draft.head[VISITS] = most;
+    let Ok(network) = Network::read(&draft.bytes(), None) else { return };
+    let answer = walk::search(&network);
+    let needed = answer.visits;
+    draft.head[VISITS] = match r.below(10) {
+        0 => 1,
+        1 => r.between(1, needed),
+        2 => (needed - 1).max(1),
+        3 => needed,
+        4 if answer.finished => needed + 1,
+        5 if answer.finished => HEAD_LIMITS[7],
+        _ if answer.finished => r.between(needed, 2 * needed),
+        _ => most,
+    };
+}

@@ -1,0 +1,220 @@
+//! Compares the engine with the second implementation.
+//!
+//! compare [--cases N] [--seed S] [--program FILE]     the comparison
+//! compare --mistake NUMBER ..                         the same, with a mistake in the second implementation
+//! compare --mutations [--cases N] [--seed S]          each mistake in turn; all must be found
+//!
+//! Where the engine is not linked, the second implementation stands in for it.
+
+use second::calls::{Calls, Second};
+use second::compare::{printable, Against, Call, Comparison, Depth, Difference};
+use second::fixed;
+use second::mistakes::{self, MISTAKES};
+use second::random::Random;
+use second::shrink::shrink;
+use std::os::unix::fs::FileExt;
+use std::path::PathBuf;
+use std::process::ExitCode;
+
+struct Options {
+    cases: u64,
+    seed: u64,
+    program: Option<PathBuf>,
+    mistake: usize,
+    mutations: bool,
+    /// A file in which the number of the file at hand is kept, should the engine end the process
+    at: Option<std::fs::File>,
+}
+
+fn options() -> Result<Options, String> {
+    let mut options = Options { cases: 4_000, seed: 1, program: None, mistake: 0, mutations: false, at: None };
+    let mut args = std::env::args().skip(1);
+    while let Some(name) = args.next() {
+        if name == "--mutations" {
+            options.mutations = true;
+            continue;
+        }
+        let value = args.next().ok_or(format!("{name} wants a value"))?;
+        let number = || value.parse::<u64>().map_err(|_| format!("{name} wants a number, not {value}"));
+        match name.as_str() {
+            "--cases" => options.cases = number()?,
+            "--seed" => options.seed = number()?,
+            "--mistake" => options.mistake = number()? as usize,
+            "--program" => options.program = Some(value.into()),
+            "--at" => options.at = Some(std::fs::File::create(&value).map_err(|e| format!("{value}: {e}"))?),
+            _ => return Err(format!("{name} is no option")),
+        }
+    }
+    Ok(options)
+}
+
+#[cfg(engine)]
+fn engine(options: &Options) -> Box<dyn Calls> {
+    Box::new(second::engine::Engine { program: options.program.clone() })
+}
+
+#[cfg(not(engine))]
+fn engine(_: &Options) -> Box<dyn Calls> {
+    Box::new(Second::new(None))
+}
+
+/// A file that showed a difference, with its name.
+struct Found {
+    name: String,
+    file: Vec<u8>,
+    difference: Difference,
+}
+
+/// Runs all files in order: those with answers in the specification, then those by rule and by chance in turns.
+fn run(comparison: &mut Comparison, options: &Options, rules: &Rules) -> Option<Found> {
+    let mut number = 0u64;
+    let mut one = |comparison: &mut Comparison, name: &dyn Fn() -> String, file: &[u8], depth: Depth| {
+        number += 1;
+        if let Some(at) = &options.at {
+            let _ = at.write_all_at(format!("{:<200}\n", name()).as_bytes(), 0);
+        }
+        let mut r = Random::of(options.seed ^ 0xca11, number);
+        let difference = comparison.file(file, depth, &mut r)?;
+        Some(Found { name: name(), file: file.to_vec(), difference })
+    };
+    for (name, text, _) in fixed::marked() {
+        let found = one(comparison, &|| format!("case {name}"), &fixed::bytes_of(&text), Depth::Marked);
+        if found.is_some() {
+            return found;
+        }
+    }
+    if let Some(difference) = comparison.ceilings() {
+        return Some(Found { name: "Ceiling".into(), file: Vec::new(), difference });
+    }
+    let (few, many) = rules;
+    let (mut few, mut many) = (few.iter(), many.iter());
+    let many_each = (many.len() as u64).div_ceil(options.cases.max(1));
+    for case in 0..options.cases {
+        let (kind, file) = fixed::by_chance(options.seed, case);
+        let found = one(comparison, &|| format!("seed {}, case {case}, {kind}", options.seed), &file, Depth::Full);
+        if found.is_some() {
+            return found;
+        }
+        let by_rule = few.next().map(|f| (f, Depth::Marked)).into_iter();
+        let by_rule = by_rule.chain(many.by_ref().take(many_each as usize).map(|f| (f, Depth::Shallow)));
+        for ((name, file), depth) in by_rule {
+            let found = one(comparison, &|| name.clone(), file, depth);
+            if found.is_some() {
+                return found;
+            }
+        }
+    }
+    None
+}
+
+type Rules = (Vec<(String, Vec<u8>)>, Vec<(String, Vec<u8>)>);
+
+fn print_found(comparison: &Comparison, found: &Found) {
+    let Found { name, file, difference } = found;
+    println!("DIFFERENCE at {name}");
+    println!("  call:   {:?}", difference.asked);
+    println!("  second: {}", difference.second);
+    println!("  engine: {}", difference.engine);
+    println!("  file:   {}", printable(file));
+    if matches!(difference.asked.call, Call::Ceiling { .. }) {
+        return;
+    }
+    let smallest = shrink(file, 4_000, &mut |f| comparison.still_differs(f, &difference.asked).is_some());
+    if let Some(difference) = comparison.still_differs(&smallest, &difference.asked) {
+        println!("  shrunk: {}", printable(&smallest));
+        println!("  second: {}", difference.second);
+        println!("  engine: {}", difference.engine);
+    }
+}
+
+/// Holds both sides to what the specification prints of its cases.
+fn marked_cases(sides: [(&str, &dyn Calls); 2]) -> bool {
+    let mut right = true;
+    for (name, text, expected) in fixed::marked() {
+        for (side, calls) in sides {
+            let file = fixed::bytes_of(&text);
+            let mut buffer = vec![0; 32_768];
+            let mut answer = [0; 6];
+            calls.report(&file, &mut buffer, &mut answer);
+            let reported = match answer[0] {
+                0 => buffer[..answer[2] as usize].to_vec(),
+                _ => format!("X,{},{}\n", answer[0], answer[1]).into_bytes(),
+            };
+            for (by, printed) in [("Report", Some(reported)), ("breakers", calls.program(&file, usize::MAX))] {
+                if let Some(printed) = printed.filter(|p| !fixed::agrees(p, expected)) {
+                    println!("case {name}: {side}, {by}: {} and not {expected}", printable(&printed));
+                    right = false;
+                }
+            }
+        }
+    }
+    for (side, calls) in sides {
+        let mut answer = [9; 6];
+        calls.ceiling(2, 1, &mut answer);
+        if answer[..3] != [0, 0, 3] {
+            println!("case l: {side}: {answer:?}");
+            right = false;
+        }
+    }
+    right
+}
+
+fn compare(options: &Options) -> bool {
+    let second = Second::new(mistakes::numbered(options.mistake));
+    let engine = engine(options);
+    if options.mistake == 0 && !marked_cases([("second", &second), ("engine", &*engine)]) {
+        return false;
+    }
+    let mut comparison = Comparison::new(&second, &*engine, Against::Both);
+    let found = run(&mut comparison, options, &fixed::by_rule());
+    if let Some(found) = &found {
+        print_found(&comparison, found);
+    }
+    let refusals: Vec<String> = comparison.refusals.iter().enumerate().map(|(n, count)| format!("{n}: {count}")).collect();
+    println!("files by refusal (0: accepted): {}; spent: {}", refusals.join(", "), comparison.spent);
+    println!(
+        "compare: {} files, {} calls compared, {} searches held to every subset; {}",
+        comparison.files,
+        comparison.calls,
+        comparison.tried,
+        if found.is_some() { "1 DIFFERENCE" } else { "no difference" }
+    );
+    found.is_none()
+}
+
+/// Each mistake in turn: against the engine, and whether demand 3 alone finds it in a search that makes it.
+fn mutations(options: &Options) -> bool {
+    let engine = engine(options);
+    let rules = fixed::by_rule();
+    let mut missed = 0;
+    println!("{:>3}  {:>7}  {:>8}  mistake", "no.", "files", "demand 3");
+    for (i, (mistake, text)) in MISTAKES.iter().enumerate() {
+        let second = Second::new(Some(*mistake));
+        let mut comparison = Comparison::new(&second, &*engine, Against::Both);
+        let found = run(&mut comparison, options, &rules);
+        let mut demand = Comparison::new(&second, &second, Against::Demand);
+        let by_demand = run(&mut demand, options, &rules);
+        let after = |found: bool, files: u64| if found { files.to_string() } else { "-".into() };
+        missed += usize::from(found.is_none());
+        let (all, alone) = (after(found.is_some(), comparison.files), after(by_demand.is_some(), demand.files));
+        println!("{:>3}  {all:>7}  {alone:>8}  {text}{}", i + 1, if found.is_some() { "" } else { "  NOT FOUND" });
+    }
+    println!("mutations: {} mistakes, {} found", MISTAKES.len(), MISTAKES.len() - missed);
+    missed == 0
+}
+
+fn main() -> ExitCode {
+    let options = match options() {
+        Ok(options) => options,
+        Err(message) => {
+            eprintln!("compare: {message}");
+            return ExitCode::from(2);
+        }
+    };
+    let right = if options.mutations { mutations(&options) } else { compare(&options) };
+    if right {
+        ExitCode::SUCCESS
+    } else {
+        ExitCode::FAILURE
+    }
+}
