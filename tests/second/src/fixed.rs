@@ -142,6 +142,37 @@ fn largest() -> Draft {
     draft
 }
 
+/// Every set of the faults behind 4 to 9, in one network. Fault 6 stands twice: where there is supply, and where there is none.
+fn fault_sets(out: &mut Vec<(String, Vec<u8>)>) {
+    for faults in 0u32..1 << 7 {
+        let mut draft = Draft { head: [90, 1, 1, 9, 9, 9], ..Draft::default() };
+        draft.stations = vec![[0, 4], [1, 0], [0, 5], [1, 0], [0, 6]];
+        draft.lines = vec![[1, 2, 1, 1, 0], [2, 3, 1, 0, 0], [3, 4, 5, 1, 0], [4, 5, 3, 0, 2]];
+        let mut names = Vec::new();
+        for (i, (number, lines)) in [
+            (9, &[[1, 3, 5, 1, 2]][..]),
+            (8, &[]),
+            (7, &[[1, 2, 4, 1, 1]]),
+            (6, &[[1, 1, 3, 0, 0]]),
+            (6, &[[1, 7, 8, 0, 0], [1, 8, 7, 0, 0]]),
+            (5, &[[1, 2, 3, 0, 2], [1, 3, 4, 2, 0]]),
+            (4, &[[1, 3, 1, 2, 2], [1, 5, 5, 2, 2]]),
+        ]
+        .into_iter()
+        .enumerate()
+        {
+            if faults >> i & 1 == 1 {
+                names.push(number);
+                draft.lines.extend_from_slice(lines);
+            }
+        }
+        if faults & 0b1_0010 != 0 {
+            draft.stations.extend([[0, 1], [0, 0], [0, 9]]);
+        }
+        out.push((format!("faults {names:?}"), draft.bytes()));
+    }
+}
+
 /// Files by rule. Those of the second list have many and are looked at by fewer calls.
 pub fn by_rule() -> (Vec<(String, Vec<u8>)>, Vec<(String, Vec<u8>)>) {
     let (k, m) = (bytes_of(FILE_K), bytes_of(FILE_M));
@@ -176,6 +207,8 @@ pub fn by_rule() -> (Vec<(String, Vec<u8>)>, Vec<(String, Vec<u8>)>) {
         file.extend_from_slice(last.as_bytes());
         few.push((format!("{full} places, then '{}'", last.trim()), file));
     }
+
+    fault_sets(&mut few);
 
     let mut many = Vec::new();
     for (name, file) in [("file K", &k), ("file M", &m)] {

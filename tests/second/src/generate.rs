@@ -131,7 +131,8 @@ pub fn network(r: &mut Random, size: Size) -> Draft {
     // Stations from the HV stations outwards, each with the breakers on its path.
     let mut passed = vec![0; stations];
     let mut lines = Vec::new();
-    for (i, feeder) in feeders(r, stations, hv).into_iter().enumerate() {
+    let feeder_of = feeders(r, stations, hv);
+    for (i, &feeder) in feeder_of.iter().enumerate() {
         let station = hv + i;
         let mut count = passed[feeder];
         let mut state = |r: &mut Random, rate: usize, must: bool| {
@@ -177,8 +178,20 @@ pub fn network(r: &mut Random, size: Size) -> Draft {
         r.shuffle(&mut lines);
     }
     let turning = r.below(3);
-    let weights = numbers(r, lines.len(), 1_000_000);
-    let customers = numbers(r, stations, 20_000);
+    let mut weights = numbers(r, lines.len(), 1_000_000);
+    let mut customers = numbers(r, stations, 20_000);
+    if hv < stations && r.once_in(6) {
+        // All failures behind one station, all customers before it: a breaker there makes the total nought.
+        let mut behind = vec![false; stations];
+        behind[hv + r.below(stations - hv)] = true;
+        for s in hv..stations {
+            behind[s] = behind[s] || behind[feeder_of[s - hv]];
+            customers[s] = if behind[s] { 0 } else { customers[s].max(1) };
+        }
+        for (weight, line) in weights.iter_mut().zip(&lines) {
+            *weight = if behind[line[0] as usize] || line[3] != OPEN && behind[line[1] as usize] { (*weight).max(1) } else { 0 };
+        }
+    }
     let mut draft = Draft::default();
     draft.stations = vec![[0; 2]; stations];
     for s in 0..stations {
@@ -259,8 +272,7 @@ fn limit_visits(r: &mut Random, draft: &mut Draft, size: Size) {
     let answer = walk::search(&network);
     let needed = answer.visits;
     draft.head[VISITS] = match r.below(10) {
-        0 => 1,
-        1 => r.between(1, needed),
+        0 | 1 => r.between(1, needed),
         2 => (needed - 1).max(1),
         3 => needed,
         4 if answer.finished => needed + 1,

@@ -193,7 +193,7 @@ fn mutations(options: &Options) -> bool {
         let mut comparison = Comparison::new(&second, &*engine, Against::Both);
         let found = run(&mut comparison, options, &rules);
         let mut demand = Comparison::new(&second, &second, Against::Demand);
-        let by_demand = run(&mut demand, options, &rules);
+        let by_demand = if mistake.in_search() { run(&mut demand, options, &rules) } else { None };
         let after = |found: bool, files: u64| if found { files.to_string() } else { "-".into() };
         missed += usize::from(found.is_none());
         let (all, alone) = (after(found.is_some(), comparison.files), after(by_demand.is_some(), demand.files));

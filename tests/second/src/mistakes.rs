@@ -122,6 +122,15 @@ mistakes! {
     ThirdNumber: "a refusal writes a third number",
 }
 
+impl Mistake {
+    /// Whether it is a mistake in impact, the walk or the series rule, which demand 3 may show.
+    pub fn in_search(self) -> bool {
+        let number = self as usize;
+        number <= Mistake::SeriesIgnored as usize
+            || (Mistake::SeriesToStations as usize..=Mistake::SeriesAnyPath as usize).contains(&number)
+    }
+}
+
 /// The mistake of a number from 1.
 pub fn numbered(number: usize) -> Wrong {
     MISTAKES.get(number.wrapping_sub(1)).map(|m| m.0)
