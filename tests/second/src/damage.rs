@@ -44,6 +44,10 @@ pub fn misstate(r: &mut Random, draft: &mut Draft) {
             if r.once_in(6) {
                 to = from;
             }
+            let hv: Vec<u64> = (1..=stations as u64).filter(|&s| draft.is_hv(s)).collect();
+            if hv.len() > 1 && r.once_in(2) {
+                (from, to) = (r.pick(&hv), r.pick(&hv));
+            }
             let state = |s: u64| if draft.is_hv(s) { BREAKER } else { PLAIN };
             let line = [r.between(0, 9), from, to, state(from), state(to)];
             draft.lines.push(line);
@@ -81,7 +85,7 @@ pub fn misstate(r: &mut Random, draft: &mut Draft) {
         }
         // 9: fewer in series, or more breakers
         15 | 16 => {
-            draft.head[SERIES] = draft.head[SERIES].saturating_sub(1).max(1);
+            draft.head[SERIES] = r.pick(&[1, 1, draft.head[SERIES].saturating_sub(1).max(1)]);
             if r.once_in(2) {
                 for line in &mut draft.lines {
                     for state in &mut line[3..] {

@@ -238,9 +238,9 @@ pub fn by_rule() -> (Vec<(String, Vec<u8>)>, Vec<(String, Vec<u8>)>) {
 pub fn by_chance(seed: u64, case: u64) -> (&'static str, Vec<u8>) {
     let mut r = Random::of(seed, case);
     let size = match r.below(100) {
-        0..=69 => Size::Small,
-        70..=93 => Size::Middle,
-        94..=98 => Size::Large,
+        0..=64 => Size::Small,
+        65..=92 => Size::Middle,
+        93..=97 => Size::Large,
         _ => Size::Full,
     };
     let kind = r.below(20);

@@ -68,17 +68,17 @@ pub enum Size {
 
 /// Numbers of one field: all 0, all equal, few different (so that sums tie), any, or near the largest.
 fn numbers(r: &mut Random, count: usize, largest: u64) -> Vec<u64> {
-    let way = r.below(8);
+    let way = r.below(20);
     let common = r.between(0, largest);
     (0..count)
         .map(|_| match way {
             0 => 0,
-            1 => common,
-            2 => r.between(0, 2.min(largest)),
-            3 | 4 => r.between(0, 9.min(largest)),
-            5 => r.between(0, largest),
-            6 => r.pick(&[0, 0, 1, largest]),
-            _ => largest - r.between(0, 1.min(largest)),
+            1 | 2 => common,
+            3..=5 => r.between(0, 2),
+            6..=11 => r.between(0, 9),
+            12..=16 => r.between(0, largest),
+            17 | 18 => r.pick(&[0, 0, 1, largest]),
+            _ => largest - r.between(0, 1),
         })
         .collect()
 }
@@ -110,22 +110,35 @@ fn feeders(r: &mut Random, stations: usize, hv: usize) -> Vec<usize> {
         .collect()
 }
 
-/// An accepted network. Its limit of visits lets the search end soon.
+/// An accepted network. Its limit of visits lets the search end soon. Most networks have a search of several visits.
 pub fn network(r: &mut Random, size: Size) -> Draft {
+    for _ in 0..r.below(6) {
+        let mut draft = radial(r, size);
+        if limit_visits(r, &mut draft, size) > 3 {
+            return draft;
+        }
+    }
+    let mut draft = radial(r, size);
+    limit_visits(r, &mut draft, size);
+    draft
+}
+
+/// A network without its limit of visits.
+fn radial(r: &mut Random, size: Size) -> Draft {
     let (stations, most_lines) = match size {
-        Size::Small => (1 + r.below(7), 10),
+        Size::Small => (1 + r.below(8), 12),
         Size::Middle => (2 + r.below(40), 70),
         Size::Large => (40 + r.below(473), 768),
         Size::Full => (512, 768),
     };
-    let hv = match r.below(6) {
+    let hv = match r.below(8) {
         0 => 1 + r.below(stations.min(5)),
-        1 => 1 + r.below(stations.min(2)),
+        1..=3 => stations.min(2),
         _ => 1,
     };
     let series = r.between(1, 8);
-    let breakers_near = r.pick(&[0, 0, 2, 6, 20]);
-    let breakers_far = r.pick(&[0, 0, 0, 3, 9]);
+    let breakers_near = r.pick(&[0, 0, 0, 3, 6, 20]);
+    let breakers_far = r.pick(&[0, 0, 0, 0, 4, 12]);
     let is_breaker = |r: &mut Random, rate: usize| rate > 0 && r.once_in(rate);
 
     // Stations from the HV stations outwards, each with the breakers on its path.
@@ -204,10 +217,9 @@ pub fn network(r: &mut Random, size: Size) -> Draft {
     }
 
     places(r, &mut draft, size);
-    let near_limit = r.pick(&[longest, longest, longest + 1, series.max(longest), 8]);
-    draft.head[SERIES] = near_limit.clamp(longest.max(1), 8);
+    let room = r.pick(&[0, 1, 1, 2, 2, 3, 8]);
+    draft.head[SERIES] = (longest + room).clamp(1, 8);
     draft.head[MINUTES] = r.pick(&[0, 1, 90, 1_440, 777]);
-    limit_visits(r, &mut draft, size);
     draft
 }
 
@@ -222,11 +234,11 @@ fn places(r: &mut Random, draft: &mut Draft, size: Size) {
         }
     }
     let wanted = match (size, r.below(4)) {
-        (_, 0) => r.below(4),
-        (Size::Small, _) => r.below(11),
-        (Size::Middle, _) => r.below(24),
-        (Size::Large, _) => r.below(65),
         (Size::Full, _) => 64,
+        (_, 0) => r.below(5),
+        (Size::Small, _) => 2 + r.below(9),
+        (Size::Middle, _) => 4 + r.below(24),
+        (Size::Large, _) => 8 + r.below(57),
     };
     let mut chosen = plain;
     r.shuffle(&mut chosen);
@@ -240,35 +252,35 @@ fn places(r: &mut Random, draft: &mut Draft, size: Size) {
         0 => r.between(0, 16),
         1 => 1,
         2 => 16,
-        _ => r.between(0, 5),
+        _ => r.between(2, 5),
     };
     for (bound, field, largest) in [(MONEY, 2, 100_000_000), (HOURS, 3, 100_000)] {
         // Some set's sum, or one less; or no bound; or any
         let mut members = draft.places.clone();
         r.shuffle(&mut members);
-        members.truncate(r.below(draft.head[ADDS] as usize + 2));
+        members.truncate(1 + r.below(draft.head[ADDS] as usize + 2));
         let sum: u64 = members.iter().map(|p| p[field]).sum();
-        draft.head[bound] = match r.below(8) {
-            0 => sum,
-            1 => sum.saturating_sub(1),
-            2 => sum + 1,
-            3 => r.between(0, 2 * sum + 1),
-            4 => 0,
+        draft.head[bound] = match r.below(16) {
+            0..=2 => sum,
+            3 => sum.saturating_sub(1),
+            4 => sum + 1,
+            5 => r.between(0, 2 * sum + 1),
+            6 => 0,
             _ => largest,
         }
         .min(largest);
     }
 }
 
-/// A limit of visits, often just at what the walk needs.
-fn limit_visits(r: &mut Random, draft: &mut Draft, size: Size) {
+/// A limit of visits, often just at what the walk needs; gives the visits needed, or that many for which it was tried.
+fn limit_visits(r: &mut Random, draft: &mut Draft, size: Size) -> u64 {
     let most = match (size, r.below(12)) {
-        (_, 0) => 20_000,
-        (Size::Small | Size::Middle, _) => 2_000,
-        _ => 600,
+        (_, 0) => 25_000,
+        (Size::Small | Size::Middle, _) => 5_000,
+        _ => 2_000,
     };
     draft.head[VISITS] = most;
-    let Ok(network) = Network::read(&draft.bytes(), None) else { return };
+    let Ok(network) = Network::read(&draft.bytes(), None) else { return 0 };
     let answer = walk::search(&network);
     let needed = answer.visits;
     draft.head[VISITS] = match r.below(10) {
@@ -280,4 +292,5 @@ fn limit_visits(r: &mut Random, draft: &mut Draft, size: Size) {
         _ if answer.finished => r.between(needed, 2 * needed),
         _ => most,
     };
+    needed
 }
