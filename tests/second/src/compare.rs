@@ -211,7 +211,7 @@ pub enum Depth {
 }
 
 /// The most visits that a search of the comparison may take.
-const MOST_VISITS: u64 = 30_000;
+const MOST_VISITS: u64 = 100_000;
 /// The most steps for trying every subset.
 const MOST_EFFORT: u64 = 1_000_000;
 

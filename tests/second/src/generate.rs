@@ -274,8 +274,9 @@ fn places(r: &mut Random, draft: &mut Draft, size: Size) {
 
 /// A limit of visits, often just at what the walk needs; gives the visits needed, or that many for which it was tried.
 fn limit_visits(r: &mut Random, draft: &mut Draft, size: Size) -> u64 {
-    let most = match (size, r.below(12)) {
-        (_, 0) => 25_000,
+    let most = match (size, r.below(300)) {
+        (_, 0) => 100_000,
+        (_, 1..=20) => 20_000,
         (Size::Small | Size::Middle, _) => 5_000,
         _ => 2_000,
     };

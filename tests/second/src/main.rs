@@ -1,6 +1,7 @@
 //! Compares the engine with the second implementation.
 //!
 //! compare [--cases N] [--seed S] [--program FILE]     the comparison
+//! compare --case NUMBER [--seed S] ..                 one file by chance alone
 //! compare --mistake NUMBER ..                         the same, with a mistake in the second implementation
 //! compare --mutations [--cases N] [--seed S]          each mistake in turn; all must be found
 //!
@@ -15,6 +16,7 @@ use second::shrink::shrink;
 use std::os::unix::fs::FileExt;
 use std::path::PathBuf;
 use std::process::ExitCode;
+use std::time::Duration;
 
 struct Options {
     cases: u64,
@@ -22,12 +24,14 @@ struct Options {
     program: Option<PathBuf>,
     mistake: usize,
     mutations: bool,
+    /// The one file by chance to look at
+    case: Option<u64>,
     /// A file in which the number of the file at hand is kept, should the engine end the process
     at: Option<std::fs::File>,
 }
 
 fn options() -> Result<Options, String> {
-    let mut options = Options { cases: 4_000, seed: 1, program: None, mistake: 0, mutations: false, at: None };
+    let mut options = Options { cases: 20_000, seed: 1, program: None, mistake: 0, mutations: false, case: None, at: None };
     let mut args = std::env::args().skip(1);
     while let Some(name) = args.next() {
         if name == "--mutations" {
@@ -39,6 +43,7 @@ fn options() -> Result<Options, String> {
         match name.as_str() {
             "--cases" => options.cases = number()?,
             "--seed" => options.seed = number()?,
+            "--case" => options.case = Some(number()?),
             "--mistake" => options.mistake = number()? as usize,
             "--program" => options.program = Some(value.into()),
             "--at" => options.at = Some(std::fs::File::create(&value).map_err(|e| format!("{value}: {e}"))?),
@@ -67,18 +72,23 @@ struct Found {
 
 /// Runs all files in order: those with answers in the specification, then those by rule and by chance in turns.
 fn run(comparison: &mut Comparison, options: &Options, rules: &Rules) -> Option<Found> {
-    let mut number = 0u64;
-    let mut one = |comparison: &mut Comparison, name: &dyn Fn() -> String, file: &[u8], depth: Depth| {
-        number += 1;
+    let one = |comparison: &mut Comparison, name: &dyn Fn() -> String, number: usize, file: &[u8], depth: Depth| {
         if let Some(at) = &options.at {
             let _ = at.write_all_at(format!("{:<200}\n", name()).as_bytes(), 0);
         }
-        let mut r = Random::of(options.seed ^ 0xca11, number);
+        let mut r = Random::of(options.seed ^ 0xca11, number as u64);
         let difference = comparison.file(file, depth, &mut r)?;
         Some(Found { name: name(), file: file.to_vec(), difference })
     };
-    for (name, text, _) in fixed::marked() {
-        let found = one(comparison, &|| format!("case {name}"), &fixed::bytes_of(&text), Depth::Marked);
+    let by_chance = |comparison: &mut Comparison, case: u64| {
+        let (kind, file) = fixed::by_chance(options.seed, case);
+        one(comparison, &|| format!("seed {}, case {case}, {kind}", options.seed), case as usize, &file, Depth::Full)
+    };
+    if let Some(case) = options.case {
+        return by_chance(comparison, case);
+    }
+    for (number, (name, text, _)) in fixed::marked().into_iter().enumerate() {
+        let found = one(comparison, &|| format!("case {name}"), number, &fixed::bytes_of(&text), Depth::Marked);
         if found.is_some() {
             return found;
         }
@@ -87,18 +97,17 @@ fn run(comparison: &mut Comparison, options: &Options, rules: &Rules) -> Option<
         return Some(Found { name: "Ceiling".into(), file: Vec::new(), difference });
     }
     let (few, many) = rules;
-    let (mut few, mut many) = (few.iter(), many.iter());
-    let many_each = (many.len() as u64).div_ceil(options.cases.max(1));
+    let [few_each, many_each] = [few, many].map(|files| files.len().div_ceil(options.cases.max(1) as usize));
+    let (mut few, mut many) = (few.iter().enumerate(), many.iter().enumerate());
     for case in 0..options.cases {
-        let (kind, file) = fixed::by_chance(options.seed, case);
-        let found = one(comparison, &|| format!("seed {}, case {case}, {kind}", options.seed), &file, Depth::Full);
+        let found = by_chance(comparison, case);
         if found.is_some() {
             return found;
         }
-        let by_rule = few.next().map(|f| (f, Depth::Marked)).into_iter();
-        let by_rule = by_rule.chain(many.by_ref().take(many_each as usize).map(|f| (f, Depth::Shallow)));
-        for ((name, file), depth) in by_rule {
-            let found = one(comparison, &|| name.clone(), file, depth);
+        let few = few.by_ref().take(few_each).map(|f| (f, Depth::Marked));
+        let many = many.by_ref().take(many_each).map(|f| (f, Depth::Shallow));
+        for ((number, (name, file)), depth) in few.chain(many) {
+            let found = one(comparison, &|| name.clone(), number, file, depth);
             if found.is_some() {
                 return found;
             }
@@ -119,7 +128,7 @@ fn print_found(comparison: &Comparison, found: &Found) {
     if matches!(difference.asked.call, Call::Ceiling { .. }) {
         return;
     }
-    let smallest = shrink(file, 4_000, &mut |f| comparison.still_differs(f, &difference.asked).is_some());
+    let smallest = shrink(file, Duration::from_secs(30), &mut |f| comparison.still_differs(f, &difference.asked).is_some());
     if let Some(difference) = comparison.still_differs(&smallest, &difference.asked) {
         println!("  shrunk: {}", printable(&smallest));
         println!("  second: {}", difference.second);

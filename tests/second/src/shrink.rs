@@ -1,5 +1,7 @@
 //! Makes a file that shows a difference smaller, as long as the difference stays.
 
+use std::time::{Duration, Instant};
+
 /// The numbers of a record, if all its fields but the first are numbers.
 fn numbers(record: &[u8]) -> Option<Vec<u64>> {
     let text = std::str::from_utf8(record).ok()?;
@@ -117,13 +119,11 @@ fn smaller(file: &[u8], differs: &mut dyn FnMut(&[u8]) -> bool) -> Option<Vec<u8
     None
 }
 
-/// A smallest file found that still differs, after at most so many tries.
-pub fn shrink(file: &[u8], mut tries: usize, differs: &mut dyn FnMut(&[u8]) -> bool) -> Vec<u8> {
+/// A smallest file found that still differs, within a time.
+pub fn shrink(file: &[u8], time: Duration, differs: &mut dyn FnMut(&[u8]) -> bool) -> Vec<u8> {
+    let start = Instant::now();
     let mut smallest = file.to_vec();
-    let mut differs_still = |candidate: &[u8]| {
-        tries = tries.saturating_sub(1);
-        tries > 0 && differs(candidate)
-    };
+    let mut differs_still = |candidate: &[u8]| start.elapsed() < time && differs(candidate);
     while let Some(found) = smaller(&smallest, &mut differs_still) {
         smallest = found;
     }
