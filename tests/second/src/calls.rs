@@ -4,8 +4,8 @@ use crate::file::{refuse, Refusal};
 use crate::mistakes::Mistake::*;
 use crate::mistakes::Wrong;
 use crate::network::Network;
-use crate::walk::{self, Answer};
 use crate::text;
+use crate::walk::{self, Answer};
 use std::cell::{OnceCell, RefCell};
 use std::rc::Rc;
 
@@ -23,7 +23,8 @@ pub trait Calls {
     fn search(&self, file: &[u8], members: &mut [u64], answer: &mut [u64]) -> bool;
     fn report(&self, file: &[u8], text: &mut [u8], answer: &mut [u64]) -> bool;
     fn ceiling(&self, places: u64, additions: u64, answer: &mut [u64]) -> bool;
-    /// What the program prints when it is given the file in pieces of at most so many bytes; none if there is no program.
+    /// What the program prints when it is given the file in pieces of so many bytes, or of more if these would be very many;
+    /// none if there is no program.
     fn program(&self, file: &[u8], piece: usize) -> Option<Vec<u8>>;
 }
 

@@ -41,14 +41,14 @@ const MARGIN: usize = 8;
 
 fn filled(fill: u64, length: usize) -> Vec<u64> {
     let mut r = Random::of(fill, length as u64);
-    (0..length + 2 * MARGIN).map(|_| r.next()).collect()
+    (0..length + 2 * MARGIN).map(|_| r.any()).collect()
 }
 
 fn filled_text(fill: u64, length: usize) -> Vec<u8> {
     let mut r = Random::of(fill, length as u64);
     let mut text = Vec::with_capacity(length + 2 * MARGIN + 8);
     while text.len() < length + 2 * MARGIN {
-        text.extend_from_slice(&r.next().to_le_bytes());
+        text.extend_from_slice(&r.any().to_le_bytes());
     }
     text.truncate(length + 2 * MARGIN);
     text
@@ -370,7 +370,7 @@ fn plan(network: Option<&Network>, depth: Depth, r: &mut Random) -> Vec<Asked> {
         .into_iter()
         .map(|call| {
             let answer = if odd_answers && r.once_in(2) { r.pick(&[0, 1, 2, 3, 4, 5, 5, 7, 8, 12]) } else { ANSWER };
-            Asked { call, answer, fill: r.next() >> 8 }
+            Asked { call, answer, fill: r.any() >> 8 }
         })
         .collect()
 }

@@ -134,11 +134,25 @@ pub fn misstate(r: &mut Random, draft: &mut Draft) {
         }
         // 2: a value at or behind the edge of its range
         _ => {
-            let odd = [0, 1, 2, 3, 4, 8, 9, 16, 17, 512, 513, 768, 769, 1_000, 1_001, 1_440, 1_441, 20_000, 20_001, 100_000, 100_001];
-            let large = [1_000_000, 1_000_001, 100_000_000, 100_000_001, 1_000_000_000, 1_000_000_001, 4_294_967_296, 4_294_967_297, 9_999_999_999];
+            let odd =
+                [0, 1, 2, 3, 4, 8, 9, 16, 17, 512, 513, 768, 769, 1_000, 1_001, 1_440, 1_441, 20_000, 20_001, 100_000, 100_001];
+            let large = [
+                1_000_000,
+                1_000_001,
+                100_000_000,
+                100_000_001,
+                1_000_000_000,
+                1_000_000_001,
+                4_294_967_296,
+                4_294_967_297,
+                9_999_999_999,
+            ];
             let value = if r.once_in(2) { r.pick(&odd) } else { r.pick(&large) };
             match r.below(4) {
-                0 => draft.head[r.pick(&[MINUTES, SERIES, ADDS, MONEY, HOURS, VISITS])] = value.min(if r.once_in(2) { 3 } else { u64::MAX }),
+                0 => {
+                    draft.head[r.pick(&[MINUTES, SERIES, ADDS, MONEY, HOURS, VISITS])] =
+                        value.min(if r.once_in(2) { 3 } else { u64::MAX })
+                }
                 1 => {
                     let s = r.below(stations);
                     draft.stations[s][r.below(2)] = value;
@@ -185,7 +199,10 @@ pub fn miswrite(r: &mut Random, bytes: &mut Vec<u8>) {
         6 => changed[f].clear(),
         7 => changed[f].insert(0, b'0'),
         8 => changed[f] = b"00".to_vec(),
-        9 => changed[f] = r.pick(&[&b"12345678901"[..], b"00000000001", b"10000000000", b"18446744073709551617", b"99999999999"]).to_vec(),
+        9 => {
+            changed[f] =
+                r.pick(&[&b"12345678901"[..], b"00000000001", b"10000000000", b"18446744073709551617", b"99999999999"]).to_vec()
+        }
         10 => changed[f] = r.pick(&[&b"1234567890"[..], b"9999999999", b"4294967296", b"4294967297", b"1000000001"]).to_vec(),
         11 => {
             let at = r.below(changed[f].len() + 1);
@@ -201,7 +218,7 @@ pub fn miswrite(r: &mut Random, bytes: &mut Vec<u8>) {
         18 => changed.push(Vec::new()),
         _ => {
             let at = r.below(bytes.len());
-            let any = r.next() as u8;
+            let any = r.any() as u8;
             match r.below(6) {
                 0 => bytes.truncate(at),
                 1 => drop(bytes.pop()),
@@ -216,17 +233,20 @@ pub fn miswrite(r: &mut Random, bytes: &mut Vec<u8>) {
     if changed != fields {
         records[i] = changed.join(&b","[..]);
     }
-    *bytes = records.into_iter().flat_map(|mut record| {
-        record.push(b'\n');
-        record
-    }).collect();
+    *bytes = records
+        .into_iter()
+        .flat_map(|mut record| {
+            record.push(b'\n');
+            record
+        })
+        .collect();
 }
 
 /// Bytes that were never a file, or one made too long.
 pub fn noise(r: &mut Random, mut file: Vec<u8>) -> Vec<u8> {
     let length = r.pick(&[LONGEST - 1, LONGEST, LONGEST + 1, LONGEST + 2, LONGEST + 7_232]);
     match r.below(6) {
-        0 => (0..r.below(60)).map(|_| r.next() as u8).collect(),
+        0 => (0..r.below(60)).map(|_| r.any() as u8).collect(),
         1 => (0..r.below(200)).map(|_| r.pick(b"NSLP,,,0011223\n\n")).collect(),
         2 => {
             // Places without end
@@ -246,6 +266,6 @@ pub fn noise(r: &mut Random, mut file: Vec<u8>) -> Vec<u8> {
             file.resize(length.max(file.len()), b'\n');
             file
         }
-        _ => (0..length).map(|_| r.next() as u8).collect(),
+        _ => (0..length).map(|_| r.any() as u8).collect(),
     }
 }

@@ -48,7 +48,9 @@ impl Calls for Engine {
     }
 
     fn search(&self, file: &[u8], members: &mut [u64], answer: &mut [u64]) -> bool {
-        unsafe { jubaxendi_search(file.as_ptr(), file.len(), members.as_mut_ptr(), members.len(), answer.as_mut_ptr(), answer.len()) }
+        unsafe {
+            jubaxendi_search(file.as_ptr(), file.len(), members.as_mut_ptr(), members.len(), answer.as_mut_ptr(), answer.len())
+        }
     }
 
     fn report(&self, file: &[u8], text: &mut [u8], answer: &mut [u64]) -> bool {
@@ -72,7 +74,7 @@ impl Calls for Engine {
         let (mut printed, mut errors) = (Vec::new(), Vec::new());
         std::thread::scope(|scope| {
             scope.spawn(move || {
-                for part in file.chunks(piece.max(1)) {
+                for part in file.chunks(piece.max(file.len() / 1_000 + 1)) {
                     // The program may stop reading a file that is too long.
                     if stdin.write_all(part).is_err() {
                         break;

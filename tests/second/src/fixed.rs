@@ -10,7 +10,8 @@ pub fn bytes_of(text: &str) -> Vec<u8> {
     text.replace('|', "\n").replace('H', "90,3,0,0,0,1").into_bytes()
 }
 
-pub const FILE_K: &str = "N,4,3,90,3,1,10,8,100|S,1,0|S,0,10|S,0,20|S,0,30|L,2,1,2,1,0|L,3,2,3,0,0|L,5,3,4,0,0|P,2,1,4,1|P,3,1,4,1|";
+pub const FILE_K: &str =
+    "N,4,3,90,3,1,10,8,100|S,1,0|S,0,10|S,0,20|S,0,30|L,2,1,2,1,0|L,3,2,3,0,0|L,5,3,4,0,0|P,2,1,4,1|P,3,1,4,1|";
 
 fn k_with(changes: &[(&str, &str)]) -> String {
     let mut text = FILE_K.to_string();
@@ -74,11 +75,12 @@ pub fn agrees(printed: &[u8], expected: &str) -> bool {
 }
 
 /// A file with every kind of line: hanging, between trees, a breaker at a far end, places at both ends.
-pub const FILE_M: &str = "N,6,7,60,3,3,9,9,50|S,0,7|S,1,0|S,0,20|S,1,0|S,0,5|S,0,11|L,2,2,1,1,0|L,3,3,1,1,0|L,5,6,4,0,1|L,8,5,6,0,0|\
+pub const FILE_M: &str =
+    "N,6,7,60,3,3,9,9,50|S,0,7|S,1,0|S,0,20|S,1,0|S,0,5|S,0,11|L,2,2,1,1,0|L,3,3,1,1,0|L,5,6,4,0,1|L,8,5,6,0,0|\
 L,1,3,5,0,2|L,4,5,5,2,0|L,6,4,2,1,2|P,1,2,4,1|P,2,2,1,2|P,3,1,2,2|P,4,1,3,3|P,4,2,3,1|P,5,1,1,1|P,6,2,2,2|";
 
 /// Single-byte changes of a file: every position with a few values, some positions with all values.
-fn byte_changes(name: &str, file: &[u8], every: usize, out: &mut Vec<(String, Vec<u8>)>) {
+fn byte_changes(name: &str, file: &[u8], every: usize, out: &mut Named) {
     for at in 0..file.len() {
         for value in 0..=255u8 {
             let few = b"NSLP,0123456789\n\r ".contains(&value);
@@ -100,13 +102,15 @@ fn byte_changes(name: &str, file: &[u8], every: usize, out: &mut Vec<(String, Ve
 }
 
 /// Every field with values at and behind the edges of all ranges.
-fn edge_values(name: &str, file: &[u8], out: &mut Vec<(String, Vec<u8>)>) {
+fn edge_values(name: &str, file: &[u8], out: &mut Named) {
     let values: Vec<String> = [0, 1, 2, 3, 7, 8, 9, 10, 16, 17, 512, 513, 768, 769, 1_000, 1_001, 1_440, 1_441, 20_000, 20_001]
         .iter()
         .chain(&[100_000, 100_001, 1_000_000, 1_000_001, 100_000_000, 100_000_001, 1_000_000_000, 1_000_000_001])
         .chain(&[4_294_967_295, 4_294_967_296, 4_294_967_297, 9_999_999_999, 10_000_000_000u64])
         .map(u64::to_string)
-        .chain(["00", "01", "0000000001", "00000000001", "", "-1", "+1", " 1", "1 ", "1.", "18446744073709551617"].map(String::from))
+        .chain(
+            ["00", "01", "0000000001", "00000000001", "", "-1", "+1", " 1", "1 ", "1.", "18446744073709551617"].map(String::from),
+        )
         .collect();
     let text = String::from_utf8_lossy(file).into_owned();
     let records: Vec<&str> = text.split_terminator('\n').collect();
@@ -143,7 +147,7 @@ fn largest() -> Draft {
 }
 
 /// Every set of the faults behind 4 to 9, in one network. Fault 6 stands twice: where there is supply, and where there is none.
-fn fault_sets(out: &mut Vec<(String, Vec<u8>)>) {
+fn fault_sets(out: &mut Named) {
     for faults in 0u32..1 << 7 {
         let mut draft = Draft { head: [90, 1, 1, 9, 9, 9], ..Draft::default() };
         draft.stations = vec![[0, 4], [1, 0], [0, 5], [1, 0], [0, 6]];
@@ -173,8 +177,11 @@ fn fault_sets(out: &mut Vec<(String, Vec<u8>)>) {
     }
 }
 
-/// Files by rule. Those of the second list have many and are looked at by fewer calls.
-pub fn by_rule() -> (Vec<(String, Vec<u8>)>, Vec<(String, Vec<u8>)>) {
+/// Files with their names.
+pub type Named = Vec<(String, Vec<u8>)>;
+
+/// Files by rule. Those of the second list are many and are given to fewer calls.
+pub fn by_rule() -> (Named, Named) {
     let (k, m) = (bytes_of(FILE_K), bytes_of(FILE_M));
     let mut few = vec![("largest file".to_string(), largest().bytes()), ("file M".to_string(), m.clone())];
     for chain in [1usize, 2, 511] {
@@ -197,7 +204,17 @@ pub fn by_rule() -> (Vec<(String, Vec<u8>)>, Vec<(String, Vec<u8>)>) {
         }
     }
     // 64, 65 and 66 places, the last ones with other faults too
-    for (places, last) in [(63, ""), (64, ""), (65, ""), (66, ""), (65, "P,70,1,0,01\n"), (65, "P,70,3,0,0\n"), (64, "P,1,1,0,0\n"), (64, "S,0,1\n"), (64, "P,70,1,0,0")] {
+    for (places, last) in [
+        (63, ""),
+        (64, ""),
+        (65, ""),
+        (66, ""),
+        (65, "P,70,1,0,01\n"),
+        (65, "P,70,3,0,0\n"),
+        (64, "P,1,1,0,0\n"),
+        (64, "S,0,1\n"),
+        (64, "P,70,1,0,0"),
+    ] {
         let mut draft = Draft { head: [90, 8, 1, 100, 100, 1_000], ..Draft::default() };
         draft.stations = (0..71).map(|s| if s == 0 { [1, 0] } else { [0, 3] }).collect();
         draft.lines = (0..70).map(|s| [1, s + 1, s + 2, u64::from(s == 0), 0]).collect();

@@ -91,19 +91,22 @@ fn feeders(r: &mut Random, stations: usize, hv: usize) -> Vec<usize> {
     (hv..stations)
         .map(|s| match shape {
             // Chains, one from each HV station
-            0 => if s < 2 * hv { s - hv } else { s - hv },
+            0 => s - hv,
             // Stars
             1 => r.below(hv),
             // Bushes: each near the one before
             2 => s - 1 - r.below(reach.min(s)),
             // A feeder with laterals
-            3 => if s < main { if s == hv { 0 } else { s - 1 } } else if r.once_in(3) { r.below(main.min(s)) } else { s - 1 },
+            3 if s == hv => 0,
+            3 if s < main || !r.once_in(3) => s - 1,
+            3 => r.below(main.min(s)),
             // Two from each
             4 => (s - hv) / 2,
             // Deep, with branches
-            5 => if r.once_in(6) { r.below(s) } else { s - 1 },
+            5 if !r.once_in(6) => s - 1,
             // Stars of stars
-            6 => if r.once_in(4) { r.below(hv) } else { r.below(s.min(hv + 4)) },
+            6 if r.once_in(4) => r.below(hv),
+            6 => r.below(s.min(hv + 4)),
             // Random trees
             _ => r.below(s),
         })
@@ -205,8 +208,7 @@ fn radial(r: &mut Random, size: Size) -> Draft {
             *weight = if behind[line[0] as usize] || line[3] != OPEN && behind[line[1] as usize] { (*weight).max(1) } else { 0 };
         }
     }
-    let mut draft = Draft::default();
-    draft.stations = vec![[0; 2]; stations];
+    let mut draft = Draft { stations: vec![[0; 2]; stations], ..Draft::default() };
     for s in 0..stations {
         draft.stations[names[s] as usize - 1] = if s < hv { [1, 0] } else { [0, customers[s]] };
     }

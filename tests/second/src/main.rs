@@ -4,15 +4,17 @@
 //! compare --case NUMBER [--seed S] ..                 one file by chance alone
 //! compare --mistake NUMBER ..                         the same, with a mistake in the second implementation
 //! compare --mutations [--cases N] [--seed S]          each mistake in turn; all must be found
+//! compare --print                                     what `breakers` must print of standard input
 //!
 //! Where the engine is not linked, the second implementation stands in for it.
 
 use second::calls::{Calls, Second};
 use second::compare::{printable, Against, Call, Comparison, Depth, Difference};
-use second::fixed;
+use second::fixed::{self, Named};
 use second::mistakes::{self, MISTAKES};
 use second::random::Random;
 use second::shrink::shrink;
+use std::io::{Read, Write};
 use std::os::unix::fs::FileExt;
 use std::path::PathBuf;
 use std::process::ExitCode;
@@ -24,6 +26,7 @@ struct Options {
     program: Option<PathBuf>,
     mistake: usize,
     mutations: bool,
+    print: bool,
     /// The one file by chance to look at
     case: Option<u64>,
     /// A file in which the number of the file at hand is kept, should the engine end the process
@@ -31,11 +34,16 @@ struct Options {
 }
 
 fn options() -> Result<Options, String> {
-    let mut options = Options { cases: 20_000, seed: 1, program: None, mistake: 0, mutations: false, case: None, at: None };
+    let mut options =
+        Options { cases: 20_000, seed: 1, program: None, mistake: 0, mutations: false, print: false, case: None, at: None };
     let mut args = std::env::args().skip(1);
     while let Some(name) = args.next() {
-        if name == "--mutations" {
-            options.mutations = true;
+        match name.as_str() {
+            "--mutations" => options.mutations = true,
+            "--print" => options.print = true,
+            _ => {}
+        }
+        if name == "--mutations" || name == "--print" {
             continue;
         }
         let value = args.next().ok_or(format!("{name} wants a value"))?;
@@ -71,7 +79,7 @@ struct Found {
 }
 
 /// Runs all files in order: those with answers in the specification, then those by rule and by chance in turns.
-fn run(comparison: &mut Comparison, options: &Options, rules: &Rules) -> Option<Found> {
+fn run(comparison: &mut Comparison, options: &Options, rules: &(Named, Named)) -> Option<Found> {
     let one = |comparison: &mut Comparison, name: &dyn Fn() -> String, number: usize, file: &[u8], depth: Depth| {
         if let Some(at) = &options.at {
             let _ = at.write_all_at(format!("{:<200}\n", name()).as_bytes(), 0);
@@ -115,8 +123,6 @@ fn run(comparison: &mut Comparison, options: &Options, rules: &Rules) -> Option<
     }
     None
 }
-
-type Rules = (Vec<(String, Vec<u8>)>, Vec<(String, Vec<u8>)>);
 
 fn print_found(comparison: &Comparison, found: &Found) {
     let Found { name, file, difference } = found;
@@ -212,6 +218,14 @@ fn mutations(options: &Options) -> bool {
     missed == 0
 }
 
+/// The second implementation as a program.
+fn print() -> bool {
+    let mut file = Vec::new();
+    let read = std::io::stdin().read_to_end(&mut file);
+    let printed = Second::new(None).program(&file, file.len()).unwrap_or_default();
+    read.and_then(|_| std::io::stdout().write_all(&printed)).is_ok()
+}
+
 fn main() -> ExitCode {
     let options = match options() {
         Ok(options) => options,
@@ -220,7 +234,13 @@ fn main() -> ExitCode {
             return ExitCode::from(2);
         }
     };
-    let right = if options.mutations { mutations(&options) } else { compare(&options) };
+    let right = if options.print {
+        print()
+    } else if options.mutations {
+        mutations(&options)
+    } else {
+        compare(&options)
+    };
     if right {
         ExitCode::SUCCESS
     } else {

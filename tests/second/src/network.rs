@@ -147,7 +147,7 @@ impl Network {
         };
         let seven = hv.iter().enumerate().any(|(i, _)| hv.iter().enumerate().any(|(j, &s)| i != j && floods[i][s].is_some()));
         let mut unsupplied = (0..file.stations.len()).filter(|&s| !supplied(s));
-        let eight = if wrong == Some(LastUnsupplied) { unsupplied.last() } else { unsupplied.next() };
+        let eight = if wrong == Some(LastUnsupplied) { unsupplied.next_back() } else { unsupplied.next() };
 
         let mut found = Vec::new();
         if six {
@@ -232,7 +232,8 @@ impl Network {
 
     /// The series rule, with breakers added.
     pub fn within_series(&self, added: &[End]) -> bool {
-        let breakers = |path: &[End]| path.iter().filter(|&&e| self.is_breaker(e, added) && !self.out_of_series(e)).count() as u64;
+        let breakers =
+            |path: &[End]| path.iter().filter(|&&e| self.is_breaker(e, added) && !self.out_of_series(e)).count() as u64;
         if self.wrong == Some(SeriesAnyPath) {
             let counts: Vec<&Vec<End>> = self.station_paths.iter().chain(&self.line_paths).collect();
             for a in &counts {

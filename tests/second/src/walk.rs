@@ -156,8 +156,7 @@ pub fn search_within(network: &Network, limit: u64) -> Answer {
     let nothing = Open { bits: 0, total: empty_total, cost: 0, hours: 0, next: 0 };
 
     // The sum of the r largest savings among places q and later.
-    let mut largest = vec![vec![0i64; places + 2]; places + 2];
-    for q in 0..places {
+    let largest_from = |q: usize| -> Vec<i64> {
         let from = match wrong {
             Some(SavingsAfterQ) => q + 1,
             Some(SavingsOfAll) => 0,
@@ -166,10 +165,9 @@ pub fn search_within(network: &Network, limit: u64) -> Answer {
         let counts = |p: &usize| wrong != Some(SavingsOfAllowed) || allowed(&[*p], &with(&nothing, *p));
         let mut later: Vec<i64> = (from..places).filter(counts).map(|p| savings[p]).collect();
         later.sort_unstable_by(|a, b| b.cmp(a));
-        for r in 0..=places {
-            largest[q][r] = later.iter().take(r).sum();
-        }
-    }
+        (0..=places).map(|r| later.iter().take(r).sum()).collect()
+    };
+    let largest: Vec<Vec<i64>> = (0..places).map(largest_from).collect();
 
     if wrong == Some(Greedy) {
         return greedy(network, adds, &allowed, &total_of, &with, nothing);
