@@ -81,7 +81,6 @@ fn ask(side: &dyn Calls, file: &[u8], asked: &Asked, mut left: Left) -> Left {
         Call::Report { .. } => side.report(file, inner(&mut left.text), answer),
         Call::Ceiling { places, additions } => side.ceiling(places, additions, answer),
         Call::Program { piece } => {
-            // A side without the program leaves nothing.
             left.text = side.program(file, piece).unwrap_or_default();
             true
         }
@@ -191,12 +190,15 @@ pub struct Comparison<'a> {
     pub against: Against,
     pub files: u64,
     pub calls: u64,
+    /// Runs of the program among them
+    pub runs: u64,
     /// Answers of Search that were held to every subset of the places
     pub tried: u64,
     /// How often each refusal was given by Check, 0 for none
     pub refusals: [u64; 10],
     /// Files of which Search was spent
     pub spent: u64,
+    has_program: bool,
     lent_file: RefCell<Vec<u8>>,
 }
 
@@ -223,9 +225,11 @@ impl<'a> Comparison<'a> {
             against,
             files: 0,
             calls: 0,
+            runs: 0,
             tried: 0,
             refusals: [0; 10],
             spent: 0,
+            has_program: engine.program(b"", 1).is_some(),
             lent_file: RefCell::new(Vec::new()),
         }
     }
@@ -255,9 +259,6 @@ impl<'a> Comparison<'a> {
             }
         }
         if self.against == Against::Demand {
-            return None;
-        }
-        if matches!(asked.call, Call::Program { .. }) && engine.text.is_empty() && self.engine.program(b"", 1).is_none() {
             return None;
         }
         let second = ask(self.second, file, asked, lend(asked));
@@ -290,6 +291,12 @@ impl<'a> Comparison<'a> {
         for asked in plan(network.as_ref(), depth, r) {
             if !ends_soon && matches!(asked.call, Call::Search { .. } | Call::Report { .. } | Call::Program { .. }) {
                 continue;
+            }
+            if matches!(asked.call, Call::Program { .. }) {
+                if !self.has_program {
+                    continue;
+                }
+                self.runs += 1;
             }
             self.calls += 1;
             let demand = network.as_ref().map(|n| (n, allowed.as_ref()));

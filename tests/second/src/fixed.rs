@@ -49,7 +49,62 @@ pub fn marked() -> Vec<(&'static str, String, &'static str)> {
         ("refusal 8", "N,1,0,H|S,0,5|".into(), "X,8,2|"),
         ("refusal 9", "N,2,1,90,1,0,0,0,1|S,1,0|S,0,5|L,1,1,2,1,1|".into(), "X,9,0|"),
         ("refusal 1, length", "0".repeat(LONGEST + 1), "X,1,0|"),
-        ("refusal 1, no bytes", "".into(), "X,1,1|"),
+    ]
+}
+
+/// Cases of docs/DECISIONS.md, "Readings of the specification", in the form of the marked ones.
+pub fn readings() -> Vec<(&'static str, String, &'static str)> {
+    let k_and = |more: &str| format!("{FILE_K}{more}");
+    let last_place = |new: &str| k_with(&[("P,3,1,4,1|", new)]);
+    let one_line = |line: &str| format!("N,2,1,H|S,1,0|S,0,5|{line}|");
+    let self_line = |line: &str| format!("N,2,2,H|S,1,0|S,0,5|L,1,1,2,1,0|{line}|");
+    let chain = |places: usize, last: &str| {
+        let mut text = "N,71,70,90,8,0,0,0,1|S,1,0|".to_string() + &"S,0,1|".repeat(70);
+        text += "L,1,1,2,1,0|";
+        (2..=70).for_each(|s| text += &format!("L,1,{s},{},0,0|", s + 1));
+        (2..places + 2).for_each(|l| text += &format!("P,{l},1,0,0|"));
+        text + last
+    };
+    vec![
+        ("no bytes", "".into(), "X,1,1|"),
+        ("one newline", "|".into(), "X,1,1|"),
+        ("an empty record at the end", k_and("|"), "X,1,11|"),
+        ("an empty record inside", k_with(&[("S,0,20|", "S,0,20||")]), "X,1,5|"),
+        ("unclosed, out of range", last_place("P,9,1,4,1"), "X,1,10|"),
+        ("unclosed, out of order", last_place("P,1,1,4,1"), "X,1,10|"),
+        ("absent", "N,3,1,H|S,1,0|".into(), "X,1,3|"),
+        ("absent, a fault before", "N,3,1,H|S,1,9|".into(), "X,2,2|"),
+        ("a line for a station", "N,2,0,H|S,1,0|L,1,1,1,1,2|".into(), "X,1,3|"),
+        ("an S behind the places", k_and("S,0,5|"), "X,1,11|"),
+        ("64 places", chain(64, ""), "A,..C,1,1,0,4900|"),
+        ("65 places", chain(65, ""), "X,3,207|"),
+        ("the 65th place, unclosed", chain(64, "P,70,1,0,0"), "X,1,207|"),
+        ("the 65th place, out of range", chain(64, "P,71,1,0,0|"), "X,2,207|"),
+        ("the 65th place, form", chain(64, "P,70,1,0|"), "X,1,207|"),
+        ("a carriage return", k_with(&[("S,0,20|", "S,0,20\r|")]), "X,1,4|"),
+        ("a kind of two bytes", k_with(&[("S,0,20|", "SS,0,20|")]), "X,1,4|"),
+        ("a field more", k_with(&[("S,0,20|", "S,0,20,0|")]), "X,1,4|"),
+        ("an empty field more", k_with(&[("S,0,20|", "S,0,20,|")]), "X,1,4|"),
+        ("eleven digits", k_with(&[("S,0,20|", "S,0,00000000020|")]), "X,1,4|"),
+        ("ten digits", k_with(&[("S,0,20|", "S,0,4294967316|")]), "X,2,4|"),
+        ("a leading zero", k_with(&[("S,0,20|", "S,0,020|")]), "X,1,4|"),
+        ("two noughts", k_with(&[("S,0,20|", "S,00,20|")]), "X,1,4|"),
+        ("form before range", k_with(&[("S,0,20|", "S,2,x|")]), "X,1,4|"),
+        ("a place without lines", "N,1,0,H|S,1,0|P,1,1,0,0|".into(), "X,2,3|"),
+        ("a place on an end of two open ones", k_with(&[("L,5,3,4,0,0", "L,5,3,4,2,2")]), "X,3,10|"),
+        ("a place on a plain end at an HV station", one_line("L,1,1,2,0,0|P,1,1,0,0"), "X,5,4|"),
+        ("a line from a station to itself", self_line("L,1,2,2,0,0"), "X,6,0|"),
+        ("a line from a station to itself, one end open", self_line("L,1,2,2,2,0"), "A,10,900|F,1,5,5|F,2,5,5|C,1,1,0,10|"),
+        ("a line from a station to itself, both ends open", self_line("L,1,2,2,2,2"), "X,4,5|"),
+        ("4 behind 5", "N,2,2,H|S,1,0|S,0,5|L,1,1,2,0,0|L,1,1,2,2,2|".into(), "X,4,5|"),
+        ("a hanging line plain at an HV station", self_line("L,1,1,2,0,2"), "X,5,5|"),
+        ("a line open at an HV station", self_line("L,1,1,2,2,0"), "A,10,900|F,1,5,5|F,2,5,5|C,1,1,0,10|"),
+        ("a ring without supply", "N,3,2,H|S,1,0|S,0,1|S,0,1|L,1,2,3,0,0|L,1,3,2,0,0|".into(), "X,6,0|"),
+        ("a ring through an HV station", self_line("L,1,2,1,0,1"), "X,6,0|"),
+        ("9 by a far end", k_with(&[("90,3,1", "90,1,1"), ("L,5,3,4,0,0", "L,5,3,4,0,1")]), "X,9,0|"),
+        ("9 by a hanging line", "N,2,2,90,1,0,0,0,1|S,1,0|S,0,5|L,1,1,2,1,0|L,1,2,1,1,2|".into(), "X,9,0|"),
+        ("a hanging line behind its own breaker", self_line("L,9,2,1,1,2"), "A,5,450|F,1,5,5|F,2,0,0|C,1,1,0,5|"),
+        ("a far breaker, unmet by its line", one_line("L,3,1,2,1,1"), "A,15,1350|F,1,5,15|C,1,1,0,15|"),
     ]
 }
 

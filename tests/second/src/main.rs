@@ -35,7 +35,7 @@ struct Options {
 
 fn options() -> Result<Options, String> {
     let mut options =
-        Options { cases: 20_000, seed: 1, program: None, mistake: 0, mutations: false, print: false, case: None, at: None };
+        Options { cases: 15_000, seed: 1, program: None, mistake: 0, mutations: false, print: false, case: None, at: None };
     let mut args = std::env::args().skip(1);
     while let Some(name) = args.next() {
         match name.as_str() {
@@ -95,7 +95,7 @@ fn run(comparison: &mut Comparison, options: &Options, rules: &(Named, Named)) -
     if let Some(case) = options.case {
         return by_chance(comparison, case);
     }
-    for (number, (name, text, _)) in fixed::marked().into_iter().enumerate() {
+    for (number, (name, text, _)) in fixed::marked().into_iter().chain(fixed::readings()).enumerate() {
         let found = one(comparison, &|| format!("case {name}"), number, &fixed::bytes_of(&text), Depth::Marked);
         if found.is_some() {
             return found;
@@ -142,10 +142,10 @@ fn print_found(comparison: &Comparison, found: &Found) {
     }
 }
 
-/// Holds both sides to what the specification prints of its cases.
+/// Holds both sides to the answers that stand beside their cases.
 fn marked_cases(sides: [(&str, &dyn Calls); 2]) -> bool {
     let mut right = true;
-    for (name, text, expected) in fixed::marked() {
+    for (name, text, expected) in fixed::marked().into_iter().chain(fixed::readings()) {
         for (side, calls) in sides {
             let file = fixed::bytes_of(&text);
             let mut buffer = vec![0; 32_768];
@@ -188,9 +188,10 @@ fn compare(options: &Options) -> bool {
     let refusals: Vec<String> = comparison.refusals.iter().enumerate().map(|(n, count)| format!("{n}: {count}")).collect();
     println!("files by refusal (0: accepted): {}; spent: {}", refusals.join(", "), comparison.spent);
     println!(
-        "compare: {} files, {} calls compared, {} searches held to every subset; {}",
+        "compare: {} files, {} calls compared, {} of them runs of the program, {} searches held to every subset; {}",
         comparison.files,
         comparison.calls,
+        comparison.runs,
         comparison.tried,
         if found.is_some() { "1 DIFFERENCE" } else { "no difference" }
     );
