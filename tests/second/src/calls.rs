@@ -64,7 +64,7 @@ impl Second {
         match result {
             Ok(values) => {
                 answer[..2].fill(0);
-                answer[2..2 + N].copy_from_slice(&values);
+                answer[2..].iter_mut().zip(values).for_each(|(slot, value)| *slot = value);
             }
             Err(refusal) => {
                 answer[0] = refusal.number;
@@ -202,14 +202,7 @@ impl Calls for Second {
     }
 
     fn search(&self, file: &[u8], members: &mut [u64], answer: &mut [u64]) -> bool {
-        if self.too_short(answer) {
-            return false;
-        }
-        let mut result = self.search_of(file, members);
-        if answer.len() < ANSWER {
-            result = refuse(10, 0);
-        }
-        self.put(answer, result)
+        !self.too_short(answer) && self.put(answer, self.search_of(file, members))
     }
 
     fn report(&self, file: &[u8], text: &mut [u8], answer: &mut [u64]) -> bool {

@@ -2,7 +2,7 @@
 
 use crate::damage;
 use crate::file::LONGEST;
-use crate::generate::{self, Draft, Size, HEAD_LIMITS};
+use crate::generate::{self, Draft, Size, MOST_HOURS, MOST_MONEY};
 use crate::random::Random;
 
 /// `|` stands for a newline, `H` for a head's last six numbers.
@@ -186,7 +186,7 @@ fn edge_values(name: &str, file: &[u8], out: &mut Named) {
 
 /// The file that has the largest total and figure, as nearly as 512 stations allow, and the largest sizes.
 fn largest() -> Draft {
-    let mut draft = Draft { head: [1_440, 8, 2, HEAD_LIMITS[5], HEAD_LIMITS[6], 300], ..Draft::default() };
+    let mut draft = Draft { head: [1_440, 8, 2, MOST_MONEY, MOST_HOURS, 300], ..Draft::default() };
     draft.stations.push([1, 0]);
     for s in 2..=512 {
         draft.stations.push([0, 20_000]);

@@ -5,7 +5,10 @@ use crate::network::Network;
 use crate::random::Random;
 use crate::walk;
 
-pub const HEAD_LIMITS: [u64; 8] = [512, 768, 1_440, 8, 16, 100_000_000, 100_000, 1_000_000_000];
+/// The largest bounds of a head.
+pub const MOST_MONEY: u64 = 100_000_000;
+pub const MOST_HOURS: u64 = 100_000;
+pub const MOST_VISITS: u64 = 1_000_000_000;
 
 /// A file's numbers, record by record.
 #[derive(Clone, Default)]
@@ -256,7 +259,7 @@ fn places(r: &mut Random, draft: &mut Draft, size: Size) {
         2 => 16,
         _ => r.between(2, 5),
     };
-    for (bound, field, largest) in [(MONEY, 2, 100_000_000), (HOURS, 3, 100_000)] {
+    for (bound, field, largest) in [(MONEY, 2, MOST_MONEY), (HOURS, 3, MOST_HOURS)] {
         // Some set's sum, or one less; or no bound; or any
         let mut members = draft.places.clone();
         r.shuffle(&mut members);
@@ -274,7 +277,7 @@ fn places(r: &mut Random, draft: &mut Draft, size: Size) {
     }
 }
 
-/// A limit of visits, often just at what the walk needs; gives the visits needed, or that many for which it was tried.
+/// A limit of visits, often just at what the walk needs. Gives the visits needed, as far as they were tried.
 fn limit_visits(r: &mut Random, draft: &mut Draft, size: Size) -> u64 {
     let most = match (size, r.below(300)) {
         (_, 0) => 100_000,
@@ -283,7 +286,7 @@ fn limit_visits(r: &mut Random, draft: &mut Draft, size: Size) -> u64 {
         _ => 2_000,
     };
     draft.head[VISITS] = most;
-    let Ok(network) = Network::read(&draft.bytes(), None) else { return 0 };
+    let network = Network::read(&draft.bytes(), None).unwrap_or_else(|refusal| panic!("made a file with {refusal:?}"));
     let answer = walk::search(&network);
     let needed = answer.visits;
     draft.head[VISITS] = match r.below(10) {
@@ -291,7 +294,7 @@ fn limit_visits(r: &mut Random, draft: &mut Draft, size: Size) -> u64 {
         2 => (needed - 1).max(1),
         3 => needed,
         4 if answer.finished => needed + 1,
-        5 if answer.finished => HEAD_LIMITS[7],
+        5 if answer.finished => MOST_VISITS,
         _ if answer.finished => r.between(needed, 2 * needed),
         _ => most,
     };

@@ -3,7 +3,7 @@
 use crate::network::Network;
 use crate::walk::{self, Answer};
 
-/// All allowed sets of a network, by their number, the least total, and the first set in dictionary order that has it.
+/// How many allowed sets a network has, their least total, and the first of them in dictionary order that has it.
 pub struct Allowed {
     pub count: u64,
     pub least: u64,
@@ -42,7 +42,8 @@ pub fn allowed_sets(network: &Network) -> Allowed {
     Allowed { count, least, first: first.iter().map(|p| p + 1).collect() }
 }
 
-/// What demand 3 says of an answer, of any set in it even where the file is too large to try every subset.
+/// What is wrong with an answer by demand 3. Where every subset was tried, `allowed` says what there is; else only the answered
+/// set is looked at.
 pub fn fault_of(network: &Network, answer: &Answer, allowed: Option<&Allowed>) -> Option<String> {
     let rising = answer.members.windows(2).all(|w| w[0] < w[1]);
     let listed = answer.members.iter().all(|&m| (1..=network.file.places.len()).contains(&m));
