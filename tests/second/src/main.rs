@@ -6,7 +6,7 @@
 //! compare --mutations [--cases N] [--seed S]          each mistake in turn; all must be found
 //! compare --print                                     what `breakers` must print of standard input
 //!
-//! Where the engine is not linked, the second implementation stands in for it.
+//! Where the engine is not linked, the second implementation without mistakes stands in for it, and a mistake must be named.
 
 use second::calls::{Calls, Second};
 use second::compare::{printable, Against, Call, Comparison, Depth, Difference};
@@ -235,6 +235,10 @@ fn main() -> ExitCode {
             return ExitCode::from(2);
         }
     };
+    if !cfg!(engine) && !options.print && !options.mutations && options.mistake == 0 {
+        eprintln!("compare: the engine is not linked");
+        return ExitCode::from(2);
+    }
     let right = if options.print {
         print()
     } else if options.mutations {
