@@ -4,7 +4,7 @@ use mathlib.Core.Bool.{and-false}
 use Prim.Native.Nat.{ℕ, _≤_, _<_}
 use lib.Dec.{leb}
 use borrow.Author.Tests.{le-leb, lt-leb}
-use Rattle.model.specs.Answer.{Answer, given, refused}
+use Rattle.model.specs.Answer.{given, refused}
 use Rattle.model.specs.Ceiling.{setCount}
 use Rattle.model.specs.Calls.{ceilingAnswered}
 

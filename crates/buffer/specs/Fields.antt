@@ -1,7 +1,7 @@
 -- Where the numbers of a network stand in its buffer.
 use Prim.Native.Nat.{ℕ, zero, suc, _+_, _*_, _-_, _≤_, _<_}
 use mathlib.Core.Path.{_≡_, refl, sym, ap, _∙_}
-use mathlib.Core.List.{List, [], _∷_, map}
+use mathlib.Core.List.{List, map}
 use native.Mathlib.Nat.{mul-zero, mul-suc}
 use native.Mathlib.Numerals.{sub-one}
 use native.Mathlib.Omega.{arith}
@@ -9,8 +9,8 @@ use lib.Dec.{eqb}
 use lib.ListN.{length, getD, take, drop, length-map}
 use lib.Seq.{getD-take, getD-drop, drop-drop}
 use Rattle.model.specs.Lists.{numbered}
-use Rattle.model.specs.Network.{Network, Station, Line, Place, value, headOf, stationOf, lineOf, placeOf, noLine, noPlace, stateAt}
-use Rattle.model.specs.Paths.{End, state, stationAt, noStation, isHV, customersOf}
+use Rattle.model.specs.Network.{Station, Line, Place, value, headOf, stationOf, lineOf, placeOf, noLine, noPlace, stateAt}
+use Rattle.model.specs.Paths.{state, stationAt, noStation, isHV, customersOf}
 use Rattle.model.specs.Sets.{placeAt}
 use Rattle.buffer.specs.Buffer.{recordsIn, networkIn}
 use Rattle.buffer.specs.Fits.{lineIn, endIn}

@@ -3,7 +3,7 @@
 -- that the answer says what is defined here.
 use Prim.Native.Nat.{ℕ}
 use mathlib.Core.Bool.{Bool, true, false, not, _&&_}
-use mathlib.Core.List.{List, [], _∷_, _++_}
+use mathlib.Core.List.{List, _++_}
 use lib.ListN.{length, drop}
 use lib.Dec.{leb, ltb}
 use Rattle.model.specs.Answer.{Answer, given, refused, _>>=_, refuseBuffer, refuseNumber}

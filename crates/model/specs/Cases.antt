@@ -9,9 +9,7 @@ use lib.ListN.{length, replicate}
 use lib.Dec.{eqb}
 use Rattle.model.specs.Lists.{all}
 use Rattle.model.specs.Answer.{Answer, given, refused, _>>=_}
-use Rattle.model.specs.Network.{networkOf}
 use Rattle.model.specs.Text.{finishedNumber}
-use Rattle.model.specs.Rules.{accepted}
 use Rattle.model.specs.Calls.{checked, impactAnswered, totalled, searched, reported, ceilingAnswered}
 
 -- the bytes of a text in which `|` stands for a newline

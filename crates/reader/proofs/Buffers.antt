@@ -5,7 +5,7 @@ use Prim.Native.Nat.{ℕ, zero, suc, _+_, _*_, _-_, _≤_, _<_}
 use native.Mathlib.Omega.{arith}
 use native.Mathlib.Numerals.{add-one}
 use native.Mathlib.Nat.{suc-mul, zero-mul, mul-le-mul-right}
-use lib.ListN.{length, getD, take, drop, length-take, length-drop, take-append-drop}
+use lib.ListN.{length, getD, take, drop, length-drop, take-append-drop}
 use lib.Seq.{take-append-le, drop-append-le, drop-drop, drop-at, take-at, length-take-le}
 use borrow.Rule.Slice.PartMut.{putMid, postOf}
 use Rattle.buffer.specs.Buffer.{recordsIn}

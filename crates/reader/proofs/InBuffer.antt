@@ -1,15 +1,14 @@
 -- The places of a file, read one behind the other into the buffer.
-use mathlib.Core.Path.{_≡_, refl, sym, ap, ap₂, _∙_}
-use mathlib.Core.Bool.{Bool, true, false}
-use mathlib.Core.List.{List, [], _∷_, _++_, map, map-append}
+use mathlib.Core.Path.{_≡_, sym, ap, ap₂, _∙_}
+use mathlib.Core.Bool.{true, false}
+use mathlib.Core.List.{List, [], _∷_, map, map-append}
 use Prim.Native.Nat.{ℕ, _+_, _*_, _-_, _≤_, _<_}
 use native.Mathlib.Omega.{arith}
 use lib.ListN.{length, take, drop, set, length-drop}
 use borrow.Rule.Slice.PartMut.{putMid}
 use Rattle.model.specs.Answer.{Answer, given, refused, _>>=_}
 use Rattle.model.specs.Format.{recordsOf}
-use Rattle.model.specs.Ranges.{rows}
-use Rattle.model.specs.Network.{Head, Station, Line, Place, Network, value, headOf, placeOf, noPlace, wellPlaced, readPlaces}
+use Rattle.model.specs.Network.{Place, Network, value, headOf, placeOf, noPlace, wellPlaced, readPlaces}
 use Rattle.buffer.specs.Buffer.{recordsIn, networkIn}
 use Rattle.reader.specs.Buffer.{stationsIn, linesIn, withPlaces}
 use Rattle.reader.specs.Parts.{kindAt, nextRecord}

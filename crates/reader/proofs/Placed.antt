@@ -1,7 +1,7 @@
 -- The order of places, and the state of the end that a place is on.
-use mathlib.Core.Path.{_≡_, refl, sym, ap, ap₂, _∙_}
-use mathlib.Core.Bool.{Bool, true, false, _&&_, _||_, and-false, and-eq-true-iff}
-use mathlib.Core.List.{List, [], _∷_, _++_, map}
+use mathlib.Core.Path.{_≡_, refl, sym, ap, _∙_}
+use mathlib.Core.Bool.{true, false, _&&_, _||_, and-false, and-eq-true-iff}
+use mathlib.Core.List.{List, [], _∷_, map}
 use Prim.Native.Nat.{ℕ, zero, suc, _+_, _*_, _-_, _≤_, _<_}
 use native.Mathlib.Omega.{arith}
 use lib.Dec.{ltb, eqb}

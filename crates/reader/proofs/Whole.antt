@@ -1,9 +1,8 @@
 -- The parts of a file together.
 use mathlib.Core.Path.{_≡_, refl, sym, ap, ap₂, _∙_}
-use mathlib.Core.List.{List, [], _∷_, _++_, map}
-use Prim.Native.Nat.{ℕ, _+_, _*_, _≤_, _<_}
+use mathlib.Core.List.{List, [], _∷_, map}
+use Prim.Native.Nat.{ℕ, _+_, _≤_, _<_}
 use native.Mathlib.Omega.{arith}
-use lib.Dec.{leb}
 use lib.ListN.{length, take, drop, length-drop}
 use lib.Seq.{take-append-le, length-take-le}
 use borrow.Author.Tests.{le-leb, lt-leb}
@@ -11,7 +10,7 @@ use borrow.Rule.Slice.PartMut.{putMid, postOf, same-len-mid}
 use Rattle.model.specs.Answer.{Answer, given, refused, _>>=_}
 use Rattle.model.specs.Format.{Record, recordsOf}
 use Rattle.model.specs.Ranges.{rows}
-use Rattle.model.specs.Network.{Head, Station, Line, Place, Network, Kind, value, kindN, kindS, kindL, headOf, stationOf, lineOf, noPlace, readRecord, readRecords, readPlaces, readAfterHead, readFile, networkOf}
+use Rattle.model.specs.Network.{Head, Station, Line, Network, Kind, value, kindN, kindS, kindL, headOf, stationOf, lineOf, noPlace, readRecord, readRecords, readPlaces, readAfterHead, readFile, networkOf}
 use Rattle.buffer.specs.Buffer.{recordsIn}
 use Rattle.reader.specs.Buffer.{stationsIn, linesIn, withPlaces}
 use Rattle.reader.specs.Parts.{letters, kindAt, nextRecord}

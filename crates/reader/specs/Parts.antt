@@ -1,10 +1,10 @@
 -- Parts of a file: where they end, and the record that comes next.
-use Prim.Native.Nat.{ℕ, zero, suc}
-use mathlib.Core.Bool.{Bool, true, false}
+use Prim.Native.Nat.{ℕ, suc}
+use mathlib.Core.Bool.{true, false}
 use mathlib.Core.List.{List, [], _∷_}
 use lib.Dec.{eqb}
 use lib.ListN.{getD}
-use Rattle.model.specs.Answer.{Answer, given, refused, _>>=_, refuseForm}
+use Rattle.model.specs.Answer.{Answer, given, _>>=_, refuseForm}
 use Rattle.model.specs.Format.{Record}
 use Rattle.model.specs.Ranges.{rows}
 use Rattle.model.specs.Network.{Kind, readRecord}

@@ -14,7 +14,7 @@ use Rattle.model.specs.Rules.{breakersOn, seriesBroken}
 use Rattle.model.specs.Outage.{pathToHV}
 use Rattle.graphs.specs.Graph.{Walk, stop, step, Trail}
 use Rattle.graphs.specs.Sum.{on}
-use Rattle.graphs.specs.Tree.{Home, countOf, back-count, trail-back}
+use Rattle.graphs.specs.Tree.{countOf, back-count, trail-back}
 use Rattle.graphs.specs.Climb.{Table, climb, climb-home}
 use Rattle.theory.specs.Reading.{Read}
 use Rattle.theory.specs.Ends.{Joins, joins-edges}

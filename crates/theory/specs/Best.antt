@@ -1,20 +1,18 @@
 -- Demand 3 of the defined search, for every accepted file.
-use Prim.Native.Nat.{ℕ, zero, suc, _+_, _≤_, _<_}
-use mathlib.Core.Path.{_≡_, refl, sym, ap, _∙_, subst}
-use mathlib.Core.Bool.{Bool, true, false, not}
-use mathlib.Core.Logic.{⊎-elim}
-use mathlib.Core.List.{List, [], _∷_, _++_, Sublistᴰ, Sublistᴰ·slnil, Sublistᴰ·cons, Sublistᴰ·cons-cons, List·Memᴰ, List·Memᴰ·head, List·Memᴰ·tail}
+use Prim.Native.Nat.{ℕ}
+use mathlib.Core.Path.{_≡_, refl, ap, subst}
+use mathlib.Core.Bool.{false, not}
+use mathlib.Core.List.{List, Sublistᴰ, Sublistᴰ·slnil, Sublistᴰ·cons, Sublistᴰ·cons-cons, List·Memᴰ, List·Memᴰ·head, List·Memᴰ·tail}
 use native.Mathlib.Omega.{arith}
 use lib.ListN.{length}
 use lib.Dec.{eqb}
 use borrow.Author.Tests.{not-true, not-false}
-use Rattle.model.specs.Lists.{numbers, numbered}
 use Rattle.model.specs.Answer.{given}
-use Rattle.model.specs.Network.{Network, Place, noPlace, networkOf}
+use Rattle.model.specs.Network.{Network, noPlace, networkOf}
 use Rattle.model.specs.Paths.{state, isOpen}
 use Rattle.model.specs.Rules.{seriesBroken, radial, accepted}
 use Rattle.model.specs.Sets.{placeNumbers, placeAt, allowed, setTotal, saving, allowedSets, allowedCount}
-use Rattle.model.specs.Walk.{walk, search}
+use Rattle.model.specs.Walk.{search}
 use Rattle.model.specs.Demand.{AllowedSet, Answered}
 use Rattle.savings.specs.Breakers.{endAt, Valid}
 use Rattle.savings.specs.Totals.{setTotal-bound}

@@ -3,7 +3,7 @@ use Prim.Native.Nat.{ℕ, zero, suc, _+_, _≤_, _<_}
 use mathlib.Core.Path.{_≡_, refl, sym, ap, _∙_, subst}
 use mathlib.Core.Bool.{Bool, true, false, not, _&&_, _||_, true≢false}
 use mathlib.Core.Logic.{_≢_, _↔_, _⊎_, inl, inr, ⊎-elim}
-use mathlib.Core.List.{List, [], _∷_, _++_, map, flatMap, List·Memᴰ, List·Memᴰ·head, List·Memᴰ·tail, List·Memᴰ·not-nil, List·Memᴰ·cases-cons, List·Memᴰ·eq-of-singleton, List·Memᴰ·append-cases, Memᴰ·append-left, Memᴰ·append-right, Memᴰ·map, Memᴰ·of-map}
+use mathlib.Core.List.{List, [], _∷_, map, flatMap, List·Memᴰ, List·Memᴰ·head, List·Memᴰ·tail, List·Memᴰ·not-nil, List·Memᴰ·cases-cons, List·Memᴰ·eq-of-singleton, List·Memᴰ·append-cases, Memᴰ·append-left, Memᴰ·append-right, Memᴰ·map, Memᴰ·of-map}
 use native.Mathlib.Decide.{ℕ-discrete}
 use native.Mathlib.Omega.{arith}
 use lib.ListN.{length}
@@ -12,7 +12,7 @@ use borrow.Author.Tests.{eqb-true, eq-eqb, not-true}
 use Rattle.model.specs.Lists.{any, keep, numbers, numbered}
 use Rattle.model.specs.Network.{Network, Line, noLine, stateAt}
 use Rattle.model.specs.Paths.{Vertex, station, line, sameVertex, End, sameEnd, end1, end2, lineNumbers, state, isOpen, stationAt, closedEnds, isAt, across, pathsFrom, paths, target}
-use Rattle.graphs.specs.Graph.{Graph, Walk, stop, step, Fresh, NoRepeat, Trail, Edges}
+use Rattle.graphs.specs.Graph.{Walk, stop, step, Fresh, NoRepeat, Trail, Edges}
 use Rattle.graphs.specs.Behind.{short, same-dec}
 use Rattle.savings.specs.Facts.{both, or-left, or-right, or-cases, sameEnd-eq, sameEnd-refl}
 use Rattle.savings.specs.Breakers.{noLine-open}

@@ -2,24 +2,23 @@
 use Prim.Native.Nat.{ℕ, zero, suc, _≤_}
 use mathlib.Core.Path.{_≡_, refl, sym, ap, _∙_, subst}
 use mathlib.Core.Bool.{Bool, true, false, _&&_, _||_, true≢false}
-use mathlib.Core.Logic.{_≢_, _⊎_, inl, inr, ⊎-elim}
+use mathlib.Core.Logic.{_≢_, _⊎_, ⊎-elim}
 use mathlib.Core.List.{List, [], _∷_, _++_, List·Memᴰ, List·Memᴰ·head, List·Memᴰ·tail, Memᴰ·append-right}
 use native.Mathlib.Omega.{arith}
 use lib.ListN.{length}
-use lib.Dec.{eqb}
 use borrow.Author.Tests.{eqb-false, eq-eqb}
 use Rattle.model.specs.Lists.{any, firstOr, numbered}
 use Rattle.model.specs.Network.{Network, Line, noLine, stateAt}
 use Rattle.model.specs.Paths.{Vertex, station, line, End, end1, end2, state, isPlain, isBreaker, isOpen, stationAt, paths, target, isHV, atHV}
 use Rattle.model.specs.Rules.{bothOpen, plainAtHV, unprotected, isSupplied}
 use Rattle.model.specs.Outage.{pathToHV}
-use Rattle.graphs.specs.Graph.{Walk, stop, step, Trail, Reach→Connected}
+use Rattle.graphs.specs.Graph.{Walk, stop, step, Reach→Connected}
 use Rattle.graphs.specs.Tree.{Home, home-from, home-tail, edge-one-way, one-home, home-next, edge-up}
-use Rattle.savings.specs.Facts.{or-cases, or-left, or-right}
+use Rattle.savings.specs.Facts.{or-cases}
 use Rattle.savings.specs.Tree.{Tree}
-use Rattle.theory.specs.Reading.{Within, LineFits, Read}
-use Rattle.theory.specs.Ends.{any-in, end-discrete, Joins, out, into, joins-edges, joins-closed, closed-end, walk-target, paths-are}
-use Rattle.theory.specs.Radial.{Rules, In, Root, line-fits, joins-in, path-listed, root-in, no-cycle, lone}
+use Rattle.theory.specs.Reading.{LineFits, Read}
+use Rattle.theory.specs.Ends.{any-in, end-discrete, Joins, out, into, joins-edges, closed-end, walk-target, paths-are}
+use Rattle.theory.specs.Radial.{Rules, In, Root, line-fits, joins-in, path-listed, no-cycle, lone}
 
 -- the first element that passes a test, where some does
 firstOr-found : {A : Type 0} (other : A) (test : A → Bool) (xs : List A) → any test xs ≡ true → List·Memᴰ (firstOr other test xs) xs × (test (firstOr other test xs) ≡ true)

@@ -1,25 +1,23 @@
 -- What the rules 4 to 9 give of a network that is read, in terms of its graph: no path returns, the HV stations are apart, and
 -- every station and line has a path to an HV station.
-use Prim.Native.Nat.{ℕ, zero, suc, _+_, _≤_, _<_}
+use Prim.Native.Nat.{ℕ, zero, suc, _+_, _≤_}
 use mathlib.Core.Path.{_≡_, refl, sym, ap, _∙_, subst}
-use mathlib.Core.Bool.{Bool, true, false, not, _&&_, _||_, true≢false}
-use mathlib.Core.Logic.{_≢_, _⊎_, inl, inr, ⊎-elim}
-use mathlib.Core.List.{List, [], _∷_, _++_, map, List·Memᴰ, List·Memᴰ·head, List·Memᴰ·tail, List·Memᴰ·not-nil, List·Memᴰ·cases-cons, Memᴰ·append-left, Memᴰ·append-right, Memᴰ·map}
+use mathlib.Core.Bool.{Bool, true, false, not, _&&_, true≢false}
+use mathlib.Core.Logic.{_≢_, _⊎_, ⊎-elim}
+use mathlib.Core.List.{List, [], _∷_, _++_, map, List·Memᴰ, List·Memᴰ·not-nil, List·Memᴰ·cases-cons, Memᴰ·append-left, Memᴰ·append-right, Memᴰ·map}
 use native.Mathlib.Omega.{arith}
 use lib.ListN.{length}
 use lib.Dec.{eqb}
-use borrow.Author.Tests.{eqb-true, eqb-false, eq-eqb, ne-eqb, not-false}
+use borrow.Author.Tests.{not-false}
 use Rattle.model.specs.Lists.{any, numbers, numbered}
-use Rattle.model.specs.Answer.{Answer, given, refused}
-use Rattle.model.specs.Network.{Network, Station, Line, noLine, stateAt}
-use Rattle.model.specs.Paths.{Vertex, station, line, sameVertex, End, sameEnd, end1, end2, stationNumbers, lineNumbers, state, isPlain, isBreaker, isOpen, stationAt, isAt, across, paths, target, noStation, isHV, atHV}
-use Rattle.model.specs.Rules.{bothOpen, plainAtHV, unprotected, returnsTo, somePathReturns, joinsAnother, someJoined, isSupplied, seriesBroken, unless, unlessSome, radial}
-use Rattle.graphs.specs.Graph.{Graph, Walk, stop, step, Trail, Connected, Cyclic, begins, Reach→Connected}
-use Rattle.graphs.specs.Tree.{Lone, Home}
-use Rattle.savings.specs.Facts.{both, or-left, or-right}
-use Rattle.theory.specs.Reading.{All, Within, LineFits, Read, given-eq, not-given}
-use Rattle.theory.specs.Sizes.{numbered-has}
-use Rattle.theory.specs.Ends.{any-in, any-out, numbered-there, in-numbers, numbers-in, sameVertex-is, end-discrete, Joins, out, into, joins-edges, joins-closed, closed-end, walk-target, paths-are}
+use Rattle.model.specs.Answer.{Answer, given}
+use Rattle.model.specs.Network.{Network, Station, noLine}
+use Rattle.model.specs.Paths.{Vertex, station, line, sameVertex, End, stationNumbers, lineNumbers, stationAt, paths, target, noStation, isHV, atHV}
+use Rattle.model.specs.Rules.{bothOpen, unprotected, returnsTo, somePathReturns, joinsAnother, someJoined, isSupplied, seriesBroken, unless, unlessSome, radial}
+use Rattle.graphs.specs.Graph.{Trail, Connected, Cyclic, begins}
+use Rattle.graphs.specs.Tree.{Lone}
+use Rattle.theory.specs.Reading.{All, LineFits, Read, given-eq, not-given}
+use Rattle.theory.specs.Ends.{any-in, numbered-there, in-numbers, sameVertex-is, Joins, out, into, closed-end, walk-target, paths-are}
 
 -- ── the rules, one by one ──
 -- the rules 4 to 8: what makes a network a forest with an HV station in each tree

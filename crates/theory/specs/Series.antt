@@ -1,6 +1,6 @@
 -- The series rule, and with it what an allowed set is, as statements about every path.
-use Prim.Native.Nat.{ℕ, _≤_, _<_}
-use mathlib.Core.Path.{_≡_, refl, sym, ap, _∙_, subst}
+use Prim.Native.Nat.{ℕ, _≤_}
+use mathlib.Core.Path.{_≡_, refl, sym, _∙_, subst}
 use mathlib.Core.Bool.{Bool, true, false, not, _&&_, true≢false}
 use mathlib.Core.Logic.{_↔_}
 use mathlib.Core.List.{List, map, List·Memᴰ}
@@ -10,7 +10,7 @@ use lib.Dec.{eqb, leb, ltb}
 use borrow.Author.Tests.{leb-true, le-leb, ltb-true, ltb-false, not-true}
 use Rattle.model.specs.Lists.{any, sum, numbers}
 use Rattle.model.specs.Network.{Network, Station}
-use Rattle.model.specs.Paths.{Vertex, station, End, stationNumbers, paths, target, noStation, isHV}
+use Rattle.model.specs.Paths.{Vertex, station, End, stationNumbers, paths, noStation, isHV}
 use Rattle.model.specs.Rules.{breakersOn, seriesBroken}
 use Rattle.model.specs.Sets.{placeAt, withBreakers, allowed}
 use Rattle.graphs.specs.Graph.{Trail}

@@ -1,8 +1,8 @@
 -- Sizes: every customer sum, outage amount, total and figure of a file that is read, and of the file with breakers added, is
 -- below 2^64.
-use Prim.Native.Nat.{ℕ, zero, suc, _+_, _*_, _-_, _^_, _≤_, _<_}
-use native.Mathlib.Nat.{mul-le-mul, mul-le-mul-left}
-use mathlib.Core.Path.{_≡_, refl, sym, ap, _∙_, subst}
+use Prim.Native.Nat.{ℕ, zero, suc, _+_, _*_, _-_, _≤_}
+use native.Mathlib.Nat.{mul-le-mul}
+use mathlib.Core.Path.{_≡_, refl, ap}
 use mathlib.Core.Bool.{Bool, true, false}
 use mathlib.Core.List.{List, [], _∷_, map}
 use native.Mathlib.Omega.{arith}
@@ -14,7 +14,7 @@ use Rattle.model.specs.Paths.{End, stationNumbers, lineNumbers, noStation, cust
 use Rattle.model.specs.Outage.{passes, customersBehind, tripped, impact, outageAmount, total, figure}
 use Rattle.model.specs.Sets.{placeAt, lineWithBreaker, withBreaker, withBreakers, setTotal, saving}
 use Rattle.model.specs.Walk.{insert, falling, largest}
-use Rattle.theory.specs.Reading.{All, Read, StationFits, LineFits, Within}
+use Rattle.theory.specs.Reading.{All, Read, StationFits, LineFits}
 
 -- ── lists ──
 pub numbers-length : (from count : ℕ) → length (numbers from count) ≡ count

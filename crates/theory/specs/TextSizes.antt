@@ -1,24 +1,24 @@
 -- Every report of an accepted file is at most 32,768 bytes long.
 use Prim.Native.Nat.{ℕ, zero, suc, _+_, _*_, _/_, _%_, _^_, _≤_, _<_}
 use native.Mathlib.Nat.{pow-suc}
-use mathlib.Core.Path.{_≡_, refl, sym, ap, _∙_, subst}
+use mathlib.Core.Path.{_≡_, refl, ap}
 use mathlib.Core.Bool.{Bool, true, false, not}
 use mathlib.Core.List.{List, [], _∷_, _++_, map, flatMap, List·Memᴰ, List·Memᴰ·head, List·Memᴰ·tail}
 use native.Mathlib.Omega.{arith}
 use lib.ListN.{length, length-append}
 use lib.Dec.{ltb}
 use borrow.Author.Tests.{ltb-false}
-use Rattle.model.specs.Lists.{sum, numbers, numbered}
+use Rattle.model.specs.Lists.{sum, numbers}
 use Rattle.model.specs.Format.{comma, newline}
 use Rattle.model.specs.Network.{Network, Place, noPlace}
 use Rattle.model.specs.Paths.{lineNumbers}
 use Rattle.model.specs.Outage.{impact, outageAmount, total, figure}
 use Rattle.model.specs.Sets.{placeAt}
-use Rattle.model.specs.Walk.{Found, search}
+use Rattle.model.specs.Walk.{search}
 use Rattle.model.specs.Text.{digits, decimal, printedLine, lineA, lineF, finishedNumber, lineC, lineB, reportText}
-use Rattle.model.specs.Demand.{AllowedSet, Answered}
+use Rattle.model.specs.Demand.{Answered}
 use Rattle.savings.specs.Allowed.{allowed-few}
-use Rattle.theory.specs.Reading.{All, PlaceFits, Read}
+use Rattle.theory.specs.Reading.{All, PlaceFits}
 use Rattle.theory.specs.Sizes.{numbers-length, numbered-has, Sized, read-sized, impact-size, outageAmount-size, total-size, figure-size, setTotal-size}
 use Rattle.theory.specs.Ends.{numbers-in}
 use Rattle.theory.specs.Best.{Accepted, search-answered}

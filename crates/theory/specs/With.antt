@@ -9,7 +9,7 @@ use lib.ListN.{length, set}
 use borrow.Author.Tests.{eqb-true, eqb-false, eq-eqb}
 use Rattle.model.specs.Lists.{any, numbers, numbered, renumbered}
 use Rattle.model.specs.Network.{Network, Line, Place, noLine}
-use Rattle.model.specs.Paths.{Vertex, station, line, sameVertex, End, end1, end2, stationNumbers, lineNumbers, state, isPlain, isBreaker, isOpen, stationAt, paths, target, isHV, atHV}
+use Rattle.model.specs.Paths.{Vertex, station, line, sameVertex, End, end1, end2, lineNumbers, state, isPlain, isBreaker, isOpen, stationAt, isHV}
 use Rattle.model.specs.Rules.{bothOpen, plainAtHV, unprotected, returnsTo, somePathReturns, joinsAnother, someJoined, isSupplied}
 use Rattle.model.specs.Sets.{placeAt, lineWithBreaker, withBreaker, withBreakers}
 use Rattle.savings.specs.Facts.{both, or-left}

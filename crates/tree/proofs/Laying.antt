@@ -18,7 +18,7 @@ use Rattle.theory.specs.Reading.{Read}
 use Rattle.theory.specs.Sizes.{numbers-length}
 use Rattle.theory.specs.Ends.{in-numbers, numbers-in, closed-end}
 use Rattle.theory.specs.Radial.{Rules, In, station-in}
-use Rattle.theory.specs.Behind.{far, none-of, append-once, numbers-once}
+use Rattle.theory.specs.Behind.{none-of, append-once, numbers-once}
 use Rattle.tree.specs.Outwards.{nearEnd, feeder}
 use Rattle.tree.specs.Queue.{Laid, Reached}
 use Rattle.tree.proofs.Near.{NearEnd, near-end, far-end}

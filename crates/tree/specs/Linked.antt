@@ -1,6 +1,6 @@
 -- Lists of the closed ends at each station, in two buffers: `heads` has the first end of each station's list, `nexts` for each
 -- end the next one in its list. An end has a code: 1 and 2 are the ends of line 1, 3 and 4 those of line 2; 0 is none.
-use Prim.Native.Nat.{ℕ, suc, _+_, _*_, _-_, _/_, _%_, _≤_, _<_}
+use Prim.Native.Nat.{ℕ, suc, _+_, _*_, _-_, _/_, _%_, _≤_}
 use mathlib.Core.Path.{_≡_}
 use mathlib.Core.List.{List, [], _∷_}
 use lib.Dec.{eqb}

@@ -1,6 +1,6 @@
 -- The lines from the HV stations outwards, in three buffers: for each line the number of its near end and the line that feeds
 -- its near station (0 where that is an HV station), and an order in which every line comes after the one that feeds it.
-use Prim.Native.Nat.{ℕ, _+_, _-_, _≤_, _<_}
+use Prim.Native.Nat.{ℕ, _-_, _≤_, _<_}
 use mathlib.Core.Path.{_≡_}
 use mathlib.Core.List.{List, [], _∷_}
 use lib.ListN.{length, getD}

@@ -4,12 +4,6 @@ use native.Mathlib.Omega.{arith}
 use borrow.Author.Needs.{needs}
 use Rattle.amounts_test.proofs.with_line.Statement.{statement}
 use Rattle.amounts_test.proofs.with_line.Tie as tie
-use Rattle.amounts_test.proofs.with_line.Reads as reads
-use Rattle.amounts_test.proofs.with_line.Lts as lts
-use Rattle.amounts.proofs.Customers.new.Reads as Customers-new-reads
-use Rattle.amounts.proofs.Total.plus.Reads as plus-reads
-use Rattle.amounts.proofs.Weight.new.Reads as Weight-new-reads
-use Rattle.amounts.proofs.times.Reads as times-reads
 
 new-requires : tie.Need-new-requires
 new-requires c κs = search needs

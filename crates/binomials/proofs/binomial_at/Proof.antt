@@ -3,8 +3,6 @@ use Rattle.binomials.specs.Pascal.{Binomials}
 use Rattle.binomials.proofs.Entries.{entry-is, entry-small}
 use Rattle.binomials.proofs.binomial_at.Statement.{statement}
 use Rattle.binomials.proofs.binomial_at.Tie as tie
-use Rattle.binomials.proofs.binomial_at.Reads as reads
-use Rattle.binomials.proofs.binomial_at.Lts as lts
 
 mul-result : tie.Need-mul-result
 mul-result c = search needs

@@ -1,7 +1,7 @@
 use borrow.Author.Needs.{needs}
 use mathlib.Core.Path.{refl, sym, ap, _∙_}
 use Prim.Native.Nat.{ℕ}
-use Rattle.model.specs.Answer.{Answer, given}
+use Rattle.model.specs.Answer.{given}
 use Rattle.model.specs.Calls.{ceilingSays}
 use Rattle.binomials.proofs.Answers.{too-many-places, too-many-additions, within-bounds}
 use Rattle.binomials.proofs.ceiling.Statement.{statement}

@@ -6,9 +6,6 @@ use Rattle.model.specs.Ceiling.{setCount}
 use Rattle.binomials.proofs.Entries.{columns, columns-first, columns-all, columns-none}
 use Rattle.binomials.proofs.set_count.Statement.{statement}
 use Rattle.binomials.proofs.set_count.Tie as tie
-use Rattle.binomials.proofs.set_count.Reads as reads
-use Rattle.binomials.proofs.set_count.Lts as lts
-use Rattle.binomials.proofs.binomial_at.Reads as binomial-at-reads
 
 abbrev Inv-loop : tie.InvT-loop
 Inv-loop table places additions sum₀ column₀ column-end sum column =

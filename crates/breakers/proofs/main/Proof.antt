@@ -5,14 +5,6 @@ use Rattle.breakers.specs.Reading.{Within}
 use borrow.Author.Needs.{needs}
 use Rattle.breakers.proofs.main.Statement.{statement}
 use Rattle.breakers.proofs.main.Tie as tie
-use Rattle.breakers.proofs.main.Reads as reads
-use Rattle.breakers.proofs.main.Lts as lts
-use Rattle.breakers.proofs.file_space.Reads as file-space-reads
-use Rattle.breakers.proofs.put_answer.Reads as put-answer-reads
-use Rattle.breakers.proofs.read_input.Reads as read-input-reads
-use Rattle.breakers.proofs.report_space.Reads as report-space-reads
-use Rattle.io.proofs.write_all.Reads as write-all-reads
-use Rattle.os.proofs.fail.Reads as fail-reads
 
 file-space-requires : tie.Need-file-space-requires
 file-space-requires c κs = search needs

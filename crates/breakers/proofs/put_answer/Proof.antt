@@ -4,10 +4,6 @@ use Rattle.breakers.proofs.Printing.{report-printed, refusal-printed}
 use borrow.Author.Needs.{needs}
 use Rattle.breakers.proofs.put_answer.Statement.{statement}
 use Rattle.breakers.proofs.put_answer.Tie as tie
-use Rattle.breakers.proofs.put_answer.Reads as reads
-use Rattle.breakers.proofs.put_answer.Lts as lts
-use Rattle.engine.proofs.report.Reads as report-reads
-use Rattle.text.proofs.put_line.Reads as put-line-reads
 
 report-requires : tie.Need-report-requires
 report-requires c κs = search needs

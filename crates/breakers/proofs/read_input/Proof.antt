@@ -1,15 +1,12 @@
 use Prim.Native.Nat.{_-_, _≤_}
 use mathlib.Core.Path.{_≡_, subst, _∙_}
 use native.Mathlib.Omega.{arith}
-use lib.ListN.{length, take, drop, length-take, length-drop}
+use lib.ListN.{length, drop, length-take, length-drop}
 use borrow.Rule.Slice.PartMut.{same-len-mid}
 use Rattle.breakers.specs.Reading.{Within}
 use borrow.Author.Needs.{needs}
 use Rattle.breakers.proofs.read_input.Statement.{statement}
 use Rattle.breakers.proofs.read_input.Tie as tie
-use Rattle.breakers.proofs.read_input.Reads as reads
-use Rattle.breakers.proofs.read_input.Lts as lts
-use Rattle.breakers.proofs.read_some.Reads as read-some-reads
 
 abbrev Inv-loop : tie.InvT-loop
 Inv-loop buf₀ at₀ buf at = (at ≤ length buf) × (length buf ≡ length buf₀)

@@ -2,10 +2,6 @@ use Prim.Native.Nat.{_≤_, _-_}
 use native.Mathlib.Omega.{arith}
 use Rattle.ceiling_test.proofs.main.Statement.{statement}
 use Rattle.ceiling_test.proofs.main.Tie as tie
-use Rattle.ceiling_test.proofs.main.Reads as reads
-use Rattle.ceiling_test.proofs.main.Lts as lts
-use Rattle.ceiling_test.proofs.show.Reads as show-reads
-use Rattle.ceiling_test.proofs.show_row.Reads as show-row-reads
 
 abbrev Inv-loop : tie.InvT-loop
 Inv-loop places₀ places = places ≤ 66

@@ -3,8 +3,6 @@ use lib.ListN.{length}
 use borrow.Author.Needs.{needs}
 use Rattle.engine_test.proofs.file_end.Statement.{statement}
 use Rattle.engine_test.proofs.file_end.Tie as tie
-use Rattle.engine_test.proofs.file_end.Reads as reads
-use Rattle.engine_test.proofs.file_end.Lts as lts
 
 abbrev Inv-loop : tie.InvT-loop
 Inv-loop input from i₀ i = (from ≤ i) × (i ≤ length input)

@@ -2,12 +2,6 @@ use Prim.Native.Nat.{_-_, _≤_}
 use borrow.Author.Needs.{needs}
 use Rattle.engine_test.proofs.main.Statement.{statement}
 use Rattle.engine_test.proofs.main.Tie as tie
-use Rattle.engine_test.proofs.main.Reads as reads
-use Rattle.engine_test.proofs.main.Lts as lts
-use Rattle.engine_test.proofs.file_end.Reads as file-end-reads
-use Rattle.engine_test.proofs.show.Reads as show-reads
-use Rattle.engine_test.proofs.space.Reads as space-reads
-use Rattle.io.proofs.read_full.Reads as read-full-reads
 
 abbrev Inv-loop : tie.InvT-loop
 Inv-loop input n at₀ at = n ≤ 200000

@@ -2,9 +2,6 @@ use Prim.Native.Nat.{_-_, _≤_}
 use borrow.Author.Needs.{needs}
 use Rattle.engine_test.proofs.show_impacts.Statement.{statement}
 use Rattle.engine_test.proofs.show_impacts.Tie as tie
-use Rattle.engine_test.proofs.show_impacts.Reads as reads
-use Rattle.engine_test.proofs.show_impacts.Lts as lts
-use Rattle.engine_test.proofs.show_impact.Reads as show-impact-reads
 
 abbrev Inv-loop : tie.InvT-loop
 Inv-loop file line₀ line = line ≤ 770

@@ -1,13 +1,9 @@
-use Prim.Native.Nat.{_-_, _≤_}
+use Prim.Native.Nat.{_-_}
 use mathlib.Core.Path.{_≡_}
 use lib.ListN.{length}
 use borrow.Author.Needs.{needs}
 use Rattle.engine_test.proofs.show_numbers.Statement.{statement}
 use Rattle.engine_test.proofs.show_numbers.Tie as tie
-use Rattle.engine_test.proofs.show_numbers.Reads as reads
-use Rattle.engine_test.proofs.show_numbers.Lts as lts
-use Rattle.io.proofs.print_decimal.Reads as print-decimal-reads
-use Rattle.io.proofs.write_all.Reads as write-all-reads
 
 abbrev Inv-loop : tie.InvT-loop
 Inv-loop members i₀ t3 t4 i-end i = i-end ≡ length members

@@ -4,13 +4,6 @@ use lib.Seq.{length-take-le}
 use borrow.Author.Needs.{needs}
 use Rattle.engine_test.proofs.show_report.Statement.{statement}
 use Rattle.engine_test.proofs.show_report.Tie as tie
-use Rattle.engine_test.proofs.show_report.Reads as reads
-use Rattle.engine_test.proofs.show_report.Lts as lts
-use Rattle.engine.proofs.report.Reads as report-reads
-use Rattle.engine_test.proofs.show_refusal.Reads as show-refusal-reads
-use Rattle.engine_test.proofs.untouched.Reads as untouched-reads
-use Rattle.io.proofs.print_decimal.Reads as print-decimal-reads
-use Rattle.io.proofs.write_all.Reads as write-all-reads
 
 report-requires : tie.Need-report-requires
 report-requires c κs = search needs

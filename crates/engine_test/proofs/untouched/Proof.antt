@@ -4,9 +4,6 @@ use lib.ListN.{length}
 use borrow.Author.Needs.{needs}
 use Rattle.engine_test.proofs.untouched.Statement.{statement}
 use Rattle.engine_test.proofs.untouched.Tie as tie
-use Rattle.engine_test.proofs.untouched.Reads as reads
-use Rattle.engine_test.proofs.untouched.Lts as lts
-use Rattle.engine_test.proofs.is_mark.Reads as is-mark-reads
 
 abbrev Inv-loop : tie.InvT-loop
 Inv-loop text n₀ i₀ i-end n i = (i-end ≡ length text) × (n ≤ i)

@@ -1,16 +1,11 @@
 use native.Mathlib.Omega.{arith}
 use mathlib.Core.Path.{ap, _∙_}
-use mathlib.Core.List.{[]}
-use lib.ListN.{getD}
 use Rattle.model.specs.declared.Range.{Range}
-use Rattle.model.specs.Ranges.{rows, inRange, _to_}
+use Rattle.model.specs.Ranges.{inRange}
 use Rattle.ranges.proofs.Rows.{entry, entry-is, from-least, below-least}
 use borrow.Author.Needs.{needs}
 use Rattle.ranges.proofs.in_range.Statement.{statement}
 use Rattle.ranges.proofs.in_range.Tie as tie
-use Rattle.ranges.proofs.in_range.Reads as reads
-use Rattle.ranges.proofs.in_range.Lts as lts
-use Rattle.ranges.proofs.largest_of.Reads as largest-of-reads
 
 mul-range : tie.Need-mul-range
 mul-range c = search needs

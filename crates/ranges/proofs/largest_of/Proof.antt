@@ -3,8 +3,6 @@ use Rattle.model.specs.Ranges.{largestOf}
 use borrow.Author.Needs.{needs}
 use Rattle.ranges.proofs.largest_of.Statement.{statement}
 use Rattle.ranges.proofs.largest_of.Tie as tie
-use Rattle.ranges.proofs.largest_of.Reads as reads
-use Rattle.ranges.proofs.largest_of.Lts as lts
 
 enum-known-largest : tie.Need-enum-known-largest
 enum-known-largest c = search needs

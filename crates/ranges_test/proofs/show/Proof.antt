@@ -2,10 +2,6 @@ use Prim.Native.Nat.{_≤_, _-_}
 use native.Mathlib.Omega.{arith}
 use Rattle.ranges_test.proofs.show.Statement.{statement}
 use Rattle.ranges_test.proofs.show.Tie as tie
-use Rattle.ranges_test.proofs.show.Reads as reads
-use Rattle.ranges_test.proofs.show.Lts as lts
-use Rattle.io.proofs.write_all.Reads as write-all-reads
-use Rattle.ranges.proofs.in_range.Reads as in-range-reads
 
 abbrev Inv-loop : tie.InvT-loop
 Inv-loop kind field first values i₀ t6 t7 t8 i = i ≤ 32

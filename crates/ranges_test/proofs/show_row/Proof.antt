@@ -2,9 +2,6 @@ use Prim.Native.Nat.{_≤_, _-_}
 use native.Mathlib.Omega.{arith}
 use Rattle.ranges_test.proofs.show_row.Statement.{statement}
 use Rattle.ranges_test.proofs.show_row.Tie as tie
-use Rattle.ranges_test.proofs.show_row.Reads as reads
-use Rattle.ranges_test.proofs.show_row.Lts as lts
-use Rattle.ranges_test.proofs.show.Reads as show-reads
 
 abbrev Inv-loop : tie.InvT-loop
 Inv-loop kind first field₀ field = field ≤ 8

@@ -2,9 +2,6 @@ use Prim.Native.Nat.{_≤_, _-_}
 use native.Mathlib.Omega.{arith}
 use Rattle.ranges_test.proofs.show_table.Statement.{statement}
 use Rattle.ranges_test.proofs.show_table.Tie as tie
-use Rattle.ranges_test.proofs.show_table.Reads as reads
-use Rattle.ranges_test.proofs.show_table.Lts as lts
-use Rattle.ranges_test.proofs.show_row.Reads as show-row-reads
 
 abbrev Inv-loop : tie.InvT-loop
 Inv-loop first kind₀ kind = kind ≤ 4

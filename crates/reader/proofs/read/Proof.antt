@@ -4,9 +4,6 @@ use Rattle.reader.proofs.Whole.{too-long, not-too-long}
 use borrow.Author.Needs.{needs}
 use Rattle.reader.proofs.read.Statement.{statement}
 use Rattle.reader.proofs.read.Tie as tie
-use Rattle.reader.proofs.read.Reads as reads
-use Rattle.reader.proofs.read.Lts as lts
-use Rattle.reader.proofs.read_file.Reads as read-file-reads
 
 returns : tie.Need-returns
 unfolding readSays

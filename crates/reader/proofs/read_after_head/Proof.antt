@@ -1,12 +1,10 @@
-use mathlib.Core.Path.{_≡_, refl, sym, ap, _∙_}
-use mathlib.Core.List.{List, [], map}
-use Prim.Native.Nat.{ℕ, _+_, _≤_}
+use mathlib.Core.Path.{_≡_, _∙_}
 use native.Mathlib.Omega.{arith}
 use lib.ListN.{length, drop}
 use borrow.Rule.Slice.PartMut.{putMid}
 use Rattle.model.specs.Format.{recordsOf}
 use Rattle.model.specs.Ranges.{rows, rowS, rowL}
-use Rattle.model.specs.Network.{value, headOf, stationOf, lineOf}
+use Rattle.model.specs.Network.{value, headOf}
 use Rattle.buffer.specs.Buffer.{recordsIn}
 use Rattle.reader.specs.Says.{readSays}
 use Rattle.reader.proofs.Steps.{says-next, says-stopped, next-within}
@@ -14,10 +12,6 @@ use Rattle.reader.proofs.Whole.{stations-stopped, lines-stopped, places
 use borrow.Author.Needs.{needs}
 use Rattle.reader.proofs.read_after_head.Statement.{statement}
 use Rattle.reader.proofs.read_after_head.Tie as tie
-use Rattle.reader.proofs.read_after_head.Reads as reads
-use Rattle.reader.proofs.read_after_head.Lts as lts
-use Rattle.reader.proofs.places.read_places.Reads as read-places-reads
-use Rattle.reader.proofs.records.read_records.Reads as read-records-reads
 
 slice-read-stations : tie.Need-slice-read-stations
 slice-read-stations c = search needs

@@ -1,7 +1,7 @@
-use mathlib.Core.Path.{_≡_, refl, sym, ap, _∙_}
+use mathlib.Core.Path.{_∙_}
 use native.Mathlib.Omega.{arith}
-use lib.ListN.{length, drop}
-use borrow.Rule.Slice.PartMut.{putMid, same-len-mid}
+use lib.ListN.{drop}
+use borrow.Rule.Slice.PartMut.{same-len-mid}
 use Rattle.model.specs.Format.{recordsOf}
 use Rattle.model.specs.Ranges.{rows, rowN}
 use Rattle.reader.specs.Says.{readSays}
@@ -10,10 +10,6 @@ use Rattle.reader.proofs.Whole.{part-long, head-stopped, head-read, hea
 use borrow.Author.Needs.{needs}
 use Rattle.reader.proofs.read_file.Statement.{statement}
 use Rattle.reader.proofs.read_file.Tie as tie
-use Rattle.reader.proofs.read_file.Reads as reads
-use Rattle.reader.proofs.read_file.Lts as lts
-use Rattle.reader.proofs.read_after_head.Reads as read-after-head-reads
-use Rattle.reader.proofs.records.read_record.Reads as read-record-reads
 
 sub-read-record : tie.Need-sub-read-record
 sub-read-record c = search needs

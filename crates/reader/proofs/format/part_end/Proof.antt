@@ -7,8 +7,6 @@ use Rattle.reader.specs.Parts.{upTo}
 use Rattle.reader.proofs.Ends.{at-separator, at-other, at-end}
 use Rattle.reader.proofs.format.part_end.Statement.{statement}
 use Rattle.reader.proofs.format.part_end.Tie as tie
-use Rattle.reader.proofs.format.part_end.Reads as reads
-use Rattle.reader.proofs.format.part_end.Lts as lts
 
 abbrev Inv-loop : tie.InvT-loop
 Inv-loop bytes from separator i₀ i = (from ≤ i) × (i ≤ length bytes) × (i + upTo separator (drop i bytes) ≡ from + upTo separator (drop from bytes))

@@ -8,10 +8,6 @@ use Rattle.reader.specs.Says.{numberSays, formSays}
 use Rattle.reader.proofs.Fields.{onFrom, letter-right, letter-wrong, kind-wrong, no-field, bad-field, next-field, all-read}
 use Rattle.reader.proofs.format.read_form.Statement.{statement}
 use Rattle.reader.proofs.format.read_form.Tie as tie
-use Rattle.reader.proofs.format.read_form.Reads as reads
-use Rattle.reader.proofs.format.read_form.Lts as lts
-use Rattle.reader.proofs.format.part_end.Reads as part-end-reads
-use Rattle.reader.proofs.format.read_number.Reads as read-number-reads
 
 abbrev Inv-loop : tie.InvT-loop
 Inv-loop bytes letter out₀ at₀ k₀ k-end out at k =

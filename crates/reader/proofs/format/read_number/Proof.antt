@@ -9,8 +9,6 @@ use Rattle.reader.specs.Says.{numberSays}
 use Rattle.reader.proofs.Digits.{digitsFrom, empty, long, zero-first, starts, low, high, more, ended, tens, below-ten-digits}
 use Rattle.reader.proofs.format.read_number.Statement.{statement}
 use Rattle.reader.proofs.format.read_number.Tie as tie
-use Rattle.reader.proofs.format.read_number.Reads as reads
-use Rattle.reader.proofs.format.read_number.Lts as lts
 
 abbrev Inv-loop : tie.InvT-loop
 Inv-loop field n v₀ i₀ v i = (n ≡ length field) × (n ≤ 10) × (i ≤ n) × (v < 10 ^ i) × (digitsFrom v (drop i field) ≡ numberOf field)

@@ -3,8 +3,6 @@ use Rattle.reader.proofs.Placed.{line-before, same-line, line-behind}
 use borrow.Author.Needs.{needs}
 use Rattle.reader.proofs.places.comes_after.Statement.{statement}
 use Rattle.reader.proofs.places.comes_after.Tie as tie
-use Rattle.reader.proofs.places.comes_after.Reads as reads
-use Rattle.reader.proofs.places.comes_after.Lts as lts
 
 element-copy-out-if1 : tie.Need-element-copy-out-if1
 element-copy-out-if1 c = search needs

@@ -3,8 +3,6 @@ use Rattle.reader.proofs.Placed.{copied}
 use borrow.Author.Needs.{needs}
 use Rattle.reader.proofs.places.put_place.Statement.{statement}
 use Rattle.reader.proofs.places.put_place.Tie as tie
-use Rattle.reader.proofs.places.put_place.Reads as reads
-use Rattle.reader.proofs.places.put_place.Lts as lts
 
 shared-slice-read-out : tie.Need-shared-slice-read-out
 shared-slice-read-out c = search needs

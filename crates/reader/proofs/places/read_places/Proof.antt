@@ -2,7 +2,7 @@ use lib.ListN.{length-drop}
 use lib.Seq.{length-take-le}
 use borrow.Rule.Slice.PartMut.{putMid, same-len-mid}
 use borrow.Author.Tests.{not-true, not-false}
-use mathlib.Core.Bool.{Bool, true, false}
+use mathlib.Core.Bool.{true}
 use Prim.Native.Nat.{_<_}
 use Rattle.model.specs.Ranges.{rows, rowP}
 use Rattle.reader.proofs.Kept.{value-kept, lines-kept, put-before}
@@ -10,11 +10,11 @@ use Rattle.reader.proofs.Placed.{not-65th}
 use Rattle.reader.proofs.Steps.{says-next, says-stopped, next-forward}
 use Rattle.reader.proofs.InBuffer.{readOn, at-start, stopped, in-bounds, misplaced, next, ended}
 use borrow.Author.Needs.{needs}
-use mathlib.Core.Path.{_≡_, refl, sym, ap, ap₂, _∙_}
-use mathlib.Core.List.{List, [], map}
+use mathlib.Core.Path.{_≡_, refl, sym, ap, _∙_}
+use mathlib.Core.List.{List}
 use Prim.Native.Nat.{ℕ, _+_, _*_, _-_, _≤_}
 use native.Mathlib.Omega.{arith}
-use lib.ListN.{length, getD, take, drop}
+use lib.ListN.{length, take, drop}
 use Rattle.model.specs.Format.{recordsOf}
 use Rattle.model.specs.Network.{Line, value, placeOf, wellPlaced}
 use Rattle.reader.specs.Buffer.{linesIn, withPlaces}

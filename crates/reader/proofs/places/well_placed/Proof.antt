@@ -7,9 +7,6 @@ use Rattle.reader.proofs.Placed.{too-many, out-of-order, by-state, stat
 use borrow.Author.Needs.{needs}
 use Rattle.reader.proofs.places.well_placed.Statement.{statement}
 use Rattle.reader.proofs.places.well_placed.Tie as tie
-use Rattle.reader.proofs.places.well_placed.Reads as reads
-use Rattle.reader.proofs.places.well_placed.Lts as lts
-use Rattle.reader.proofs.places.comes_after.Reads as comes-after-reads
 
 returns : tie.Need-returns
 returns c =

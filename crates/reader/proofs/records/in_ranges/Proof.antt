@@ -1,6 +1,6 @@
 use borrow.Author.Tests.{not-true, not-false}
 use borrow.Author.Needs.{needs}
-use mathlib.Core.Path.{_≡_, refl, sym, ap, _∙_}
+use mathlib.Core.Path.{_≡_, refl, sym, _∙_}
 use mathlib.Core.List.{[]}
 use Prim.Native.Nat.{_-_, _≤_}
 use native.Mathlib.Omega.{arith}
@@ -10,9 +10,6 @@ use Rattle.model.specs.Network.{value}
 use Rattle.reader.proofs.Ranged.{row-short, out-of-range, within-range, no-more}
 use Rattle.reader.proofs.records.in_ranges.Statement.{statement}
 use Rattle.reader.proofs.records.in_ranges.Tie as tie
-use Rattle.reader.proofs.records.in_ranges.Reads as reads
-use Rattle.reader.proofs.records.in_ranges.Lts as lts
-use Rattle.ranges.proofs.in_range.Reads as in-range-reads
 
 abbrev Inv-loop : tie.InvT-loop
 Inv-loop kind numbers stations lines field₀ field-end field =

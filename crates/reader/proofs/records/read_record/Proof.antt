@@ -1,5 +1,5 @@
 use borrow.Author.Tests.{not-true, not-false}
-use mathlib.Core.Path.{_≡_, refl, sym, ap, _∙_}
+use mathlib.Core.Path.{sym, _∙_}
 use mathlib.Core.List.{[]}
 use native.Mathlib.Omega.{arith}
 use Rattle.reader.specs.Parts.{kindAt, letters}
@@ -8,11 +8,6 @@ use Rattle.reader.specs.Says.{stepSays, forward}
 use borrow.Author.Needs.{needs}
 use Rattle.reader.proofs.records.read_record.Statement.{statement}
 use Rattle.reader.proofs.records.read_record.Tie as tie
-use Rattle.reader.proofs.records.read_record.Reads as reads
-use Rattle.reader.proofs.records.read_record.Lts as lts
-use Rattle.reader.proofs.format.part_end.Reads as part-end-reads
-use Rattle.reader.proofs.format.read_form.Reads as read-form-reads
-use Rattle.reader.proofs.records.in_ranges.Reads as in-ranges-reads
 
 part-end-requires : tie.Need-part-end-requires
 part-end-requires c κs = search needs

@@ -6,21 +6,17 @@ use mathlib.Core.List.{List, []}
 use Prim.Native.Nat.{ℕ, _+_, _*_, _-_, _≤_}
 use native.Mathlib.Omega.{arith}
 use lib.ListN.{length, getD, drop}
-use Rattle.model.specs.Answer.{Answer, given}
-use Rattle.model.specs.Format.{Record, recordsOf}
+use Rattle.model.specs.Answer.{given}
+use Rattle.model.specs.Format.{recordsOf}
 use Rattle.model.specs.Ranges.{rows}
 use Rattle.model.specs.Network.{readRecords}
 use Rattle.buffer.specs.Buffer.{recordsIn}
 use Rattle.reader.specs.Parts.{kindAt}
-use Rattle.reader.specs.Says.{stepSays, forward, within}
+use Rattle.reader.specs.Says.{stepSays, within}
 use Rattle.reader.proofs.Buffers.{room, part-length, put-record}
 use Rattle.reader.proofs.Several.{behindThese, none-before, stopped, next, all-read}
 use Rattle.reader.proofs.records.read_records.Statement.{statement}
 use Rattle.reader.proofs.records.read_records.Tie as tie
-use Rattle.reader.proofs.records.read_records.Reads as reads
-use Rattle.reader.proofs.records.read_records.Lts as lts
-use Rattle.reader.proofs.records.read_record.Reads as read-record-reads
-use Rattle.reader.proofs.records.width_of.Reads as width-of-reads
 
 abbrev Inv-loop : tie.InvT-loop
 Inv-loop file from kind first count stations lines numbers₀ width at₀ k₀ numbers at k =

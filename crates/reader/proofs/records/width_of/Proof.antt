@@ -3,8 +3,6 @@ use Rattle.reader.proofs.Ranged.{row-width, row-short}
 use borrow.Author.Needs.{needs}
 use Rattle.reader.proofs.records.width_of.Statement.{statement}
 use Rattle.reader.proofs.records.width_of.Tie as tie
-use Rattle.reader.proofs.records.width_of.Reads as reads
-use Rattle.reader.proofs.records.width_of.Lts as lts
 
 mul-result : tie.Need-mul-result
 mul-result c = search needs
