@@ -7,3 +7,4 @@ pub mod Sets
 pub mod Apart
 pub mod Start
 pub mod Held
+pub mod Meets
