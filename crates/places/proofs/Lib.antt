@@ -2,3 +2,5 @@ pub mod Marking
 pub mod PlaceOn
 pub mod Meeting
 pub mod Passing
+pub mod Climbing
+pub mod Above

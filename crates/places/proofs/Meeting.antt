@@ -45,7 +45,7 @@ breakers-next N e es = breakers-count N (e ∷ es) ∙ ap (λ n. on (isBreaker N
 -- the path of an HV station
 pub meets-none : (N : Network) → Read N → Meets N [] (record { trip = 0; first = 0; stop = 0; count = 0 })
 unfolding firstOr
-meets-none N d = record { trips = refl; firsts = sym (no-end-unplaced N d); stops = sym (no-end-unplaced N d); counts = sym (breakers-count N []) }
+meets-none N d = record { trips = refl; firsts = sym (no-end-unplaced N d .0); stops = sym (no-end-unplaced N d .0); counts = sym (breakers-count N []) }
 
 module _ (N : Network) (a : Accepted N) (e : End) (es : List End) (m : Met) (h : Meets N es m) (x : ℕ) (p : x ≡ placeOn N e) where
   -- the path begins with a breaker

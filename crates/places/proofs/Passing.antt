@@ -24,7 +24,7 @@ use Rattle.places.specs.Meets.{Meets, pathBeyond, HoldsFeeders, metIn}
 use Rattle.places.specs.declared.lines.Met.{Met}
 use Rattle.places.proofs.Marking.{There, end-of-code}
 
-beyond-is : (N : Network) (l : ℕ) → 1 ≤ l → far (nearEnd N l) ∷ route N l ≡ pathBeyond N l
+pub beyond-is : (N : Network) (l : ℕ) → 1 ≤ l → far (nearEnd N l) ∷ route N l ≡ pathBeyond N l
 beyond-is N zero h = absurd (omega arith)
 beyond-is N (suc l) h = refl
 

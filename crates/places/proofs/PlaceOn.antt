@@ -71,8 +71,8 @@ pub listed-place : (N : Network) (p : ℕ) → 1 ≤ p → p ≤ length (N .plac
 listed-place N p a b = any-in (λ d. sameEnd d (endAt N p)) (endAt N p) (placeEnds N) (Memᴰ·map (λ p. endAt N p) (listed-number N p a b)) (sameEnd-refl (endAt N p))
 
 -- no place is on the end that is not there
-pub no-end-unplaced : (N : Network) → Read N → placeOn N noEnd ≡ 0
-no-end-unplaced N d = ⊎-elim (λ n. n .0) (λ g. absurd (omega (arith, place-fits N d (placeOn N noEnd) (g .low) (g .high) .line, ap (λ (e : End). e .line) (g .is)))) (place-or-none N noEnd)
+pub no-end-unplaced : (N : Network) → Read N → Unplaced N noEnd
+no-end-unplaced N d = ⊎-elim (λ n. n) (λ g. absurd (omega (arith, place-fits N d (placeOn N noEnd) (g .low) (g .high) .line, ap (λ (e : End). e .line) (g .is)))) (place-or-none N noEnd)
 
 module _ (N : Network) (a : Accepted N) where
   -- the place on a place's end

@@ -8,3 +8,4 @@ pub mod Apart
 pub mod Start
 pub mod Held
 pub mod Meets
+pub mod Climb

@@ -34,6 +34,10 @@ pub record HoldsFeeders (N : Network) (near feed : List ℕ) : Type 0 where
   pub nears : (l : ℕ) → 1 ≤ l → l ≤ length (N .lines) → getD near (l - 1) 0 ≡ nearEnd N l .side
   pub feeds : (l : ℕ) → 1 ≤ l → l ≤ length (N .lines) → getD feed (l - 1) 0 ≡ feeder N l
 
+-- the place that the path of each line meets first
+abbrev pub HoldsFirsts : Network → List ℕ → Type 0
+HoldsFirsts N firsts = (l : ℕ) → 1 ≤ l → l ≤ length (N .lines) → getD firsts (l - 1) 0 ≡ placeOn N (firstPlace (placeEnds N) (route N l))
+
 -- the four numbers of a line in their buffers
 abbrev pub metIn : List ℕ → List ℕ → List ℕ → List ℕ → ℕ → Met
 metIn trips firsts stops counts l = record { trip = getD trips (l - 1) 0; first = getD firsts (l - 1) 0; stop = getD stops (l - 1) 0; count = getD counts (l - 1) 0 }

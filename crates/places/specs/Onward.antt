@@ -56,6 +56,11 @@ less-near B e f (d ∷ ds) = go (sameEnd d e) refl
     go true h = sym (ap (λ b. this b d (firstOr noEnd B ds)) (ap B (sameEnd-eq d e h) ∙ f))
     go false h = refl
 
+-- by how the line's path begins
+pub onward-first : (N : Network) (e d : End) (ds : List End) → d ∷ ds ≡ pathToHV N (line (e .line)) → onward N e ≡ this (sameEnd d e) ds (d ∷ ds)
+unfolding onward
+onward-first N e d ds p = ap (less e) (sym p)
+
 -- the breaker near an end that has none is the first on its line's path
 pub near-line : (N : Network) (B : End → Bool) (e : End) → B e ≡ false → near (onward N) B e ≡ firstOr noEnd B (pathToHV N (line (e .line)))
 unfolding onward

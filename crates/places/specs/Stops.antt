@@ -97,7 +97,7 @@ first-none (e ∷ es) = first-none es
 
 module _ (up : End → List End) (ps : List End) (z : has noEnd ps ≡ false) (p : End) (listed : has p ps ≡ true) where
   -- a path passes p where its first place is p or has p on the path onward from it
-  passes-stop : (es : List End) → Way up es → has p es ≡ (has (firstPlace ps es) ps && (sameEnd (firstPlace ps es) p || has p (up (firstPlace ps es))))
+  pub passes-stop : (es : List End) → Way up es → has p es ≡ (has (firstPlace ps es) ps && (sameEnd (firstPlace ps es) p || has p (up (firstPlace ps es))))
   passes-stop es w =
       let s : End = firstPlace ps es in
       sym (covers-none p es) ∙ stop-covers up (λ e. false) refl ps (λ e h. refl) z p listed es w

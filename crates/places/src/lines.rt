@@ -14,8 +14,9 @@ ghost use Rattle.buffer.specs.Buffer.{networkIn};
 ghost use Rattle.tree.specs.Linked.{endCode, codeEnd};
 ghost use Rattle.tree.specs.Outwards.{nearEnd, feeder, Outwards};
 ghost use Rattle.places.specs.Sets.{route};
-ghost use Rattle.places.specs.Held.{HoldsEnds, HoldsPlaces, HoldsLines};
-ghost use Rattle.places.specs.Meets.{Meets, pathBeyond, HoldsFeeders, metIn};
+ghost use Rattle.places.specs.Held.{HoldsEnds, HoldsPlaces, HoldsLines, HoldsRelations};
+ghost use Rattle.places.specs.Meets.{Meets, pathBeyond, HoldsFeeders, HoldsFirsts, metIn};
+ghost use Rattle.places.specs.Climb.{isAbove, placeAbove, Among, Noted, Kept};
 
 // The code of the end that a place is on.
 fn end_of(net: &[u64; 5129], place: usize) -> usize
@@ -210,4 +211,75 @@ pub fn fill_lines(
     ensures { λ r. ⌜ HoldsLines (networkIn (now (net .entry))) (now (trips .exit)) (now (firsts .exit)) (now (stops .exit)) (now (counts .exit)) ⌝ }
 {
     lines_outwards(net, near, feed, order, marks, trips, firsts, stops, counts);
+}
+
+// The next place above a place, the first that the path onward from it meets; 0 if there is none.
+fn above_of(
+    net: &[u64; 5129],
+    near: &[u64; 768],
+    feed: &[u64; 768],
+    marks: &[u64; 1537],
+    firsts: &[u64; 768],
+    place: usize,
+) -> usize
+    requires { ⌜ Accepted (networkIn (now net)) × HoldsFeeders (networkIn (now net)) (now near) (now feed) × HoldsPlaces (networkIn (now net)) (now marks) × HoldsFirsts (networkIn (now net)) (now firsts) × Among (length (networkIn (now net) .places)) place ⌝ }
+    ensures { λ r. ⌜ r ≡ placeAbove (networkIn (now (net .entry))) place ⌝ }
+{
+    let line = buffer::place_line(net, place);
+    if buffer::place_side(net, place) != near[line - 1] as usize {
+        return firsts[line - 1] as usize;
+    }
+    let feeder = feed[line - 1] as usize;
+    if feeder == 0 {
+        return 0;
+    }
+    // the feeder's far end
+    let code = 2 * feeder + 1 - near[feeder - 1] as usize;
+    first_from(marks, code, firsts[feeder - 1]) as usize
+}
+
+// The relations between a place and those above it: it is behind each of them, and each is on the path onward from it.
+fn climb(
+    net: &[u64; 5129],
+    near: &[u64; 768],
+    feed: &[u64; 768],
+    marks: &[u64; 1537],
+    firsts: &[u64; 768],
+    relations: &mut [u64; 4225],
+    place: usize,
+)
+    requires { ⌜ Accepted (networkIn (now net)) × HoldsFeeders (networkIn (now net)) (now near) (now feed) × HoldsPlaces (networkIn (now net)) (now marks) × HoldsFirsts (networkIn (now net)) (now firsts) × Among (length (networkIn (now net) .places)) place × (length (now relations) ≡ 4225) ⌝ }
+    ensures { λ r. ⌜ Noted (length (networkIn (now (net .entry)) .places)) (λ q. isAbove (networkIn (now (net .entry))) q place) place (now (relations .entry)) (now (relations .exit)) × Kept (now (relations .entry)) (now (relations .exit)) × (length (now (relations .exit)) ≡ 4225) ⌝ }
+{
+    let mut above = above_of(net, near, feed, marks, firsts, place);
+    while above != 0 {
+        relations[above * 65 + place] = 1;
+        relations[place * 65 + above] = 2;
+        above = above_of(net, near, feed, marks, firsts, above);
+    }
+}
+
+// No relation is noted.
+fn no_relations(relations: &mut [u64; 4225])
+    ensures { λ r. ⌜ ((k : ℕ) → getD (now (relations .exit)) k 0 ≡ 0) × (length (now (relations .exit)) ≡ 4225) ⌝ }
+{
+    *relations = [0; 4225];
+}
+
+// How each place stands to each other.
+pub fn fill_relations(
+    net: &[u64; 5129],
+    near: &[u64; 768],
+    feed: &[u64; 768],
+    marks: &[u64; 1537],
+    firsts: &[u64; 768],
+    relations: &mut [u64; 4225],
+)
+    requires { ⌜ Accepted (networkIn (now net)) × HoldsFeeders (networkIn (now net)) (now near) (now feed) × HoldsPlaces (networkIn (now net)) (now marks) × HoldsFirsts (networkIn (now net)) (now firsts) ⌝ }
+    ensures { λ r. ⌜ HoldsRelations (networkIn (now (net .entry))) (now (relations .exit)) ⌝ }
+{
+    no_relations(relations);
+    for place in 1..buffer::places(net) + 1 {
+        climb(net, near, feed, marks, firsts, relations, place);
+    }
 }

@@ -1,0 +1,10 @@
+use mathlib.Core.Path.{refl}
+use Rattle.tree.proofs.Linking.{zeros}
+use Rattle.places.proofs.lines.no_relations.Statement.{statement}
+use Rattle.places.proofs.lines.no_relations.Tie as tie
+
+returns : tie.Need-returns
+returns c = (zeros 4225, refl)
+
+pub no-relations-spec : {M : Type 1} → statement M
+no-relations-spec = tie.close (tie.spec returns)
