@@ -1,6 +1,6 @@
 -- The places above a place of an accepted file: the next of them, and those above that one.
 use Prim.Native.Nat.{ℕ, _+_, _*_, _-_, _≤_, _<_}
-use mathlib.Core.Path.{_≡_, refl, sym, ap, _∙_, subst}
+use mathlib.Core.Path.{_≡_, refl, sym, ap, _∙_}
 use mathlib.Core.Bool.{Bool, true, false, _&&_, _||_, true≢false}
 use mathlib.Core.Logic.{_≢_, ⊎-elim}
 use mathlib.Core.List.{List, [], _∷_}
@@ -11,8 +11,7 @@ use lib.ListN.{length, getD}
 use borrow.Author.Tests.{eq-eqb, ne-eqb}
 use Rattle.model.specs.Lists.{any, firstOr}
 use Rattle.model.specs.Network.{Network}
-use Rattle.model.specs.Paths.{line, End, sameEnd, isOpen}
-use Rattle.model.specs.Outage.{noEnd}
+use Rattle.model.specs.Paths.{line, End, sameEnd}
 use Rattle.savings.specs.Facts.{or-cases, sameEnd-eq, sameEnd-refl}
 use Rattle.savings.specs.First.{this}
 use Rattle.savings.specs.Breakers.{endAt}

@@ -1,6 +1,6 @@
 -- Relations of numbered places, noted by climbing from each place to those above it. Row q of the relations has 65 numbers.
 use Prim.Native.Nat.{ℕ, zero, suc, _+_, _*_, _≤_, _<_}
-use mathlib.Core.Path.{_≡_, refl, sym, ap, _∙_, subst}
+use mathlib.Core.Path.{_≡_, refl, sym, ap, _∙_}
 use mathlib.Core.Bool.{Bool, true, false, not, _&&_, _||_, true≢false}
 use mathlib.Core.Logic.{_≢_}
 use mathlib.Core.List.{List}

@@ -1,13 +1,13 @@
 -- What the paths of the lines meet, line by line from the HV stations outwards.
 use Prim.Native.Nat.{ℕ, zero, suc, _+_, _*_, _-_, _≤_, _<_}
 use mathlib.Core.Path.{_≡_, refl, sym, ap, _∙_, subst}
-use mathlib.Core.List.{List, [], _∷_}
+use mathlib.Core.List.{List, _∷_}
 use native.Mathlib.Decide.{ℕ-discrete}
 use native.Mathlib.Omega.{arith}
 use lib.ListN.{length, getD, set}
 use lib.Seq.{getD-set-same, getD-set-other}
 use Rattle.model.specs.Network.{Network}
-use Rattle.model.specs.Paths.{line, End}
+use Rattle.model.specs.Paths.{line}
 use Rattle.model.specs.Rules.{breakersOn}
 use Rattle.model.specs.Outage.{tripped}
 use Rattle.theory.specs.Above.{series-above}
@@ -22,7 +22,7 @@ use Rattle.places.specs.Sets.{route}
 use Rattle.places.specs.Held.{HoldsLines}
 use Rattle.places.specs.Meets.{Meets, pathBeyond, HoldsFeeders, metIn}
 use Rattle.places.specs.declared.lines.Met.{Met}
-use Rattle.places.proofs.Marking.{There, end-of-code}
+use Rattle.places.proofs.Marking.{end-of-code}
 
 pub beyond-is : (N : Network) (l : ℕ) → 1 ≤ l → far (nearEnd N l) ∷ route N l ≡ pathBeyond N l
 beyond-is N zero h = absurd (omega arith)

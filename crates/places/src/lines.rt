@@ -36,7 +36,7 @@ fn no_ends(ends: &mut [u64; 65])
 // The code of each place's end.
 pub fn fill_ends(net: &[u64; 5129], ends: &mut [u64; 65])
     requires { ⌜ Read (networkIn (now net)) ⌝ }
-    ensures { λ r. ⌜ HoldsEnds (networkIn (now (net .entry))) (now (ends .exit)) ⌝ }
+    ensures { λ r. ⌜ HoldsEnds (networkIn (now (net .entry))) (now (ends .exit)) × (length (now (ends .exit)) ≡ 65) ⌝ }
 {
     no_ends(ends);
     for place in 1..buffer::places(net) + 1 {
@@ -276,7 +276,7 @@ pub fn fill_relations(
     relations: &mut [u64; 4225],
 )
     requires { ⌜ Accepted (networkIn (now net)) × HoldsFeeders (networkIn (now net)) (now near) (now feed) × HoldsPlaces (networkIn (now net)) (now marks) × HoldsFirsts (networkIn (now net)) (now firsts) ⌝ }
-    ensures { λ r. ⌜ HoldsRelations (networkIn (now (net .entry))) (now (relations .exit)) ⌝ }
+    ensures { λ r. ⌜ HoldsRelations (networkIn (now (net .entry))) (now (relations .exit)) × (length (now (relations .exit)) ≡ 4225) ⌝ }
 {
     no_relations(relations);
     for place in 1..buffer::places(net) + 1 {

@@ -1,7 +1,5 @@
-use Prim.Native.Nat.{_-_}
-use mathlib.Core.Path.{_≡_, sym, _∙_}
+use mathlib.Core.Path.{_∙_}
 use native.Mathlib.Omega.{arith}
-use lib.ListN.{getD}
 use Rattle.buffer.specs.Buffer.{networkIn}
 use Rattle.places.proofs.Above.{place-line, place-end, above-far, above-hv, feeder-near, above-fed}
 use borrow.Author.Needs.{needs}

@@ -1,9 +1,9 @@
 use Rattle.places.proofs.Marking.{Below, below-next}
 use borrow.Author.Needs.{needs}
-use Prim.Native.Nat.{ℕ, _+_, _-_, _≤_, _<_}
+use Prim.Native.Nat.{_+_, _-_, _≤_}
 use mathlib.Core.Path.{_≡_}
 use native.Mathlib.Omega.{arith}
-use lib.ListN.{length, getD, length-set}
+use lib.ListN.{length, length-set}
 use Rattle.savings.specs.Breakers.{endAt}
 use Rattle.buffer.specs.Buffer.{networkIn}
 use Rattle.tree.specs.Linked.{endCode}
@@ -50,7 +50,7 @@ loop-again c =
     (omega arith, omega arith, omega arith, simp length-set (h .inv .3), below-next (λ p. endCode (endAt (networkIn (s .args .net .now)) p)) (h .ends) (h .place) (c .end-of .result) (omega arith) (c .end-of .ensures .0) (h .inv .4))
 
 returns : tie.Need-returns Inv-loop μ-loop
-returns c = λ p i j. c .before .loop .inv .4 p i (omega arith)
+returns c = (λ p i j. c .before .loop .inv .4 p i (omega arith), c .before .loop .inv .3)
 
 pub fill-ends-spec : {M : Type 1} → statement M
 fill-ends-spec =

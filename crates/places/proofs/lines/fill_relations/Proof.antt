@@ -64,7 +64,7 @@ returns c =
     let N = networkIn (g .net .now) in
     let n = length (N .places) in
     let h = c .before .loop in
-    relations-all N (s .pre .0) (h .relations) (h .inv .4) (related-all n (isAbove N) (placeAbove N) (λ p. length (onward N (endAt N p))) (climb-places N (s .pre .0)) (h .place) (omega arith) (h .relations) (h .inv .5))
+    (relations-all N (s .pre .0) (h .relations) (h .inv .4) (related-all n (isAbove N) (placeAbove N) (λ p. length (onward N (endAt N p))) (climb-places N (s .pre .0)) (h .place) (omega arith) (h .relations) (h .inv .5)), h .inv .3)
 
 pub fill-relations-spec : {M : Type 1} → statement M
 fill-relations-spec =

@@ -2,7 +2,7 @@ use borrow.Author.Needs.{needs}
 use Prim.Native.Nat.{_-_, _≤_}
 use mathlib.Core.Path.{_≡_, refl}
 use native.Mathlib.Omega.{arith}
-use lib.ListN.{length, getD, length-set}
+use lib.ListN.{length, length-set}
 use Rattle.buffer.specs.Buffer.{networkIn}
 use Rattle.places.proofs.Passing.{Done, holds-feeders, done-feeder, done-more, done-all}
 use Rattle.places.proofs.lines.lines_outwards.Statement.{statement}
