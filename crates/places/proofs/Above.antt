@@ -25,11 +25,11 @@ use Rattle.places.specs.Stops.{firstPlace, passes-stop}
 use Rattle.places.specs.Sets.{route}
 use Rattle.places.specs.Apart.{placeEnds, ends-apart}
 use Rattle.places.specs.Held.{placeOn, HoldsPlaces, relation, HoldsRelations}
-use Rattle.places.specs.Meets.{pathBeyond, HoldsFeeders, HoldsFirsts}
+use Rattle.places.specs.Meets.{orElse, pathBeyond, HoldsFeeders, HoldsFirsts}
 use Rattle.places.specs.Climb.{isAbove, placeAbove, Among, noted}
 use Rattle.places.proofs.Marking.{place-fits}
 use Rattle.places.proofs.PlaceOn.{Unplaced, Placed, place-or-none, listed-number, listed-place, no-end-unplaced}
-use Rattle.places.proofs.Meeting.{orElse, first-next}
+use Rattle.places.proofs.Meeting.{first-next}
 use Rattle.places.proofs.Passing.{near-own, beyond-is, far-coded, route-is, feeder-high}
 use Rattle.places.proofs.Climbing.{from, from-is, Climb}
 

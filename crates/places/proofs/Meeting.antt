@@ -5,7 +5,6 @@ use mathlib.Core.Bool.{Bool, true, false, _||_}
 use mathlib.Core.Logic.{⊎-elim}
 use mathlib.Core.List.{List, [], _∷_}
 use native.Mathlib.Omega.{arith}
-use lib.Dec.{eqb}
 use borrow.Author.Tests.{eq-eqb, ne-eqb}
 use Rattle.model.specs.Lists.{any, firstOr}
 use Rattle.model.specs.Network.{Network}
@@ -22,13 +21,9 @@ use Rattle.tree.specs.Linked.{endCode}
 use Rattle.places.specs.Ways.{has}
 use Rattle.places.specs.Apart.{placeEnds}
 use Rattle.places.specs.Held.{placeOn}
-use Rattle.places.specs.Meets.{Meets}
+use Rattle.places.specs.Meets.{orElse, Meets}
 use Rattle.places.specs.declared.lines.Met.{Met}
 use Rattle.places.proofs.PlaceOn.{place-or-none, no-end-unplaced, breaker-unplaced}
-
--- a number, or another where it is 0
-abbrev pub orElse : ℕ → ℕ → ℕ
-orElse x y = this (eqb x 0) y x
 
 -- the place that a path meets first: that on its first end if it has one
 pub first-next : (N : Network) (test : End → Bool) (e : End) (es : List End) → test e ≡ has e (placeEnds N) → (x y : ℕ) → x ≡ placeOn N e → y ≡ placeOn N (firstOr noEnd test es)

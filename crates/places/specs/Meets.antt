@@ -2,12 +2,14 @@
 use Prim.Native.Nat.{ℕ, zero, suc, _-_, _≤_}
 use mathlib.Core.Path.{_≡_}
 use mathlib.Core.List.{List, [], _∷_}
+use lib.Dec.{eqb}
 use lib.ListN.{length, getD}
 use Rattle.model.specs.Lists.{firstOr}
 use Rattle.model.specs.Network.{Network}
 use Rattle.model.specs.Paths.{End, isBreaker}
 use Rattle.model.specs.Rules.{breakersOn}
 use Rattle.model.specs.Outage.{noEnd}
+use Rattle.savings.specs.First.{this}
 use Rattle.savings.specs.Totals.{breakersWith}
 use Rattle.theory.specs.Behind.{far}
 use Rattle.tree.specs.Linked.{endCode}
@@ -18,6 +20,11 @@ use Rattle.places.specs.Apart.{placeEnds}
 use Rattle.places.specs.Held.{placeOn}
 use Rattle.places.specs.declared.lines.Met.{Met}
 
+-- a number, or another where it is 0
+abbrev pub orElse : ℕ → ℕ → ℕ
+orElse x y = this (eqb x 0) y x
+
+-- the numbers of a path
 pub record Meets (N : Network) (es : List End) (m : Met) : Type 0 where
   pub trips : m .trip ≡ endCode (firstOr noEnd (λ e. isBreaker N e) es)
   pub firsts : m .first ≡ placeOn N (firstPlace (placeEnds N) es)

@@ -3,10 +3,8 @@
 ghost use Prim.Native.Nat.{ℕ, _+_, _*_, _-_, _≤_};
 ghost use mathlib.Core.Path.{_≡_};
 ghost use mathlib.Core.List.{List, _∷_};
-ghost use lib.Dec.{eqb};
 ghost use lib.ListN.{length, getD};
 ghost use Rattle.model.specs.Paths.{End};
-ghost use Rattle.savings.specs.First.{this};
 ghost use Rattle.savings.specs.Breakers.{endAt};
 ghost use Rattle.theory.specs.Reading.{Read};
 ghost use Rattle.theory.specs.Best.{Accepted};
@@ -15,7 +13,7 @@ ghost use Rattle.tree.specs.Linked.{endCode, codeEnd};
 ghost use Rattle.tree.specs.Outwards.{nearEnd, feeder, Outwards};
 ghost use Rattle.places.specs.Sets.{route};
 ghost use Rattle.places.specs.Held.{HoldsEnds, HoldsPlaces, HoldsLines, HoldsRelations};
-ghost use Rattle.places.specs.Meets.{Meets, pathBeyond, HoldsFeeders, HoldsFirsts, metIn};
+ghost use Rattle.places.specs.Meets.{orElse, Meets, pathBeyond, HoldsFeeders, HoldsFirsts, metIn};
 ghost use Rattle.places.specs.Climb.{isAbove, placeAbove, Among, Noted, Kept};
 
 // The code of the end that a place is on.
@@ -76,7 +74,7 @@ struct Met {
 // The place on an end if it has one, else what is first beyond it.
 fn first_from(marks: &[u64; 1537], code: usize, beyond: u64) -> u64
     requires { ⌜ code ≤ 1536 ⌝ }
-    ensures { λ r. ⌜ r ≡ this (eqb (getD (now (marks .entry)) code 0) 0) beyond (getD (now (marks .entry)) code 0) ⌝ }
+    ensures { λ r. ⌜ r ≡ orElse (getD (now (marks .entry)) code 0) beyond ⌝ }
 {
     let place = marks[code];
     if place == 0 {
