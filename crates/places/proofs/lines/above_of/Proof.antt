@@ -131,7 +131,14 @@ sub-code-2 c =
     omega (arith, i, feeder-near N (s .pre .0) (g .near .now) (g .feed .now) (g .marks .now) (g .firsts .now) (s .pre .1) (s .pre .2) (s .pre .3) l t (i .0) (i .1) (c .before .before .before .if1 .left) (c .before .if2 .left))
 
 sub-first-from : tie.Need-sub-first-from
-sub-first-from c = search needs
+sub-first-from c =
+    let s = c .before .before .before .before .before .before .before in
+    let g = s .args in
+    let N = networkIn (g .net .now) in
+    let l = c .before .before .before .before .before .before .place-line .result in
+    let t = c .before .before .before .before .before .place-side .result in
+    let i = place-line N (s .pre .0) (g .place) l (s .pre .4) (c .before .before .before .before .before .before .place-line .ensures) in
+    omega (arith, i, feeder-near N (s .pre .0) (g .near .now) (g .feed .now) (g .marks .now) (g .firsts .now) (s .pre .1) (s .pre .2) (s .pre .3) l t (i .0) (i .1) (c .before .before .before .if1 .left) (c .before .if2 .left))
 
 mul-first-from : tie.Need-mul-first-from
 mul-first-from c =
