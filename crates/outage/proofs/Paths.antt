@@ -50,7 +50,7 @@ module _ (N : Network) (d : Read N) (r : Rules N) where
   near-end l a b = let n = line-near l (a, b) in subst (Near N l) (sym (near-is l (n .0) (n .1))) (n .1)
 
   -- the first end of a station's path is the far end of the line that feeds it
-  station-far : (s : ℕ) (f : End) (fs : List End) → In N (station s) → pathToHV N (station s) ≡ f ∷ fs
+  pub station-far : (s : ℕ) (f : End) (fs : List End) → In N (station s) → pathToHV N (station s) ≡ f ∷ fs
       → (stationAt N f ≡ s) × (isOpen N f ≡ false) × (pathToHV N (line (f .line)) ≡ fs) × (f ≡ far (nearEnd N (f .line)))
   station-far s f fs i p = go (first-joins i p)
     where

@@ -24,8 +24,8 @@ use Rattle.places.specs.Onward.{onward, onward-first, way-onward}
 use Rattle.places.specs.Stops.{firstPlace, passes-stop}
 use Rattle.places.specs.Sets.{route}
 use Rattle.places.specs.Apart.{placeEnds, ends-apart}
-use Rattle.places.specs.Held.{placeOn, HoldsPlaces, relation, HoldsRelations}
-use Rattle.places.specs.Meets.{orElse, pathBeyond, HoldsFeeders, HoldsFirsts}
+use Rattle.places.specs.Held.{placeOn, HoldsPlaces, relation, HoldsRelations, HoldsFirsts}
+use Rattle.places.specs.Meets.{orElse, pathBeyond, HoldsFeeders}
 use Rattle.places.specs.Climb.{isAbove, placeAbove, Among, noted}
 use Rattle.places.proofs.Marking.{place-fits}
 use Rattle.places.proofs.PlaceOn.{Unplaced, Placed, place-or-none, listed-number, listed-place, no-end-unplaced}

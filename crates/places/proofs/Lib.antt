@@ -4,3 +4,13 @@ pub mod Meeting
 pub mod Passing
 pub mod Climbing
 pub mod Above
+pub mod Numbers
+pub mod OnEnds
+pub mod Gathering
+pub mod Under
+pub mod Weighing
+pub mod FirstPlaces
+pub mod FarStations
+pub mod Raising
+pub mod Series
+pub mod LevelZero

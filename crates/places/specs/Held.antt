@@ -13,6 +13,7 @@ use Rattle.model.specs.Sets.{placeNumbers}
 use Rattle.savings.specs.Breakers.{endAt}
 use Rattle.savings.specs.Totals.{breakersWith}
 use Rattle.tree.specs.Linked.{endCode, codeEnd}
+use Rattle.tree.specs.Outwards.{nearEnd}
 use Rattle.tree.specs.Counts.{pathBreakers}
 use Rattle.places.specs.Ways.{has}
 use Rattle.places.specs.Onward.{onward}
@@ -29,13 +30,32 @@ placeOn N e = firstOr 0 (λ p. sameEnd (endAt N p) e) (placeNumbers N)
 abbrev pub HoldsPlaces : Network → List ℕ → Type 0
 HoldsPlaces N marks = (code : ℕ) → 1 ≤ code → code ≤ 2 * length (N .lines) → getD marks code 0 ≡ placeOn N (codeEnd code)
 
--- What the path of each line meets first on its way to the HV station: a breaker, a place, either of the two (its place, or 0
--- if it is a breaker); and how many breakers are on it.
+-- the number of each line's near end
+abbrev pub HoldsSides : Network → List ℕ → Type 0
+HoldsSides N near = (l : ℕ) → 1 ≤ l → l ≤ length (N .lines) → getD near (l - 1) 0 ≡ nearEnd N l .side
+
+-- the code of the breaker that trips for each line
+abbrev pub HoldsTrips : Network → List ℕ → Type 0
+HoldsTrips N trips = (l : ℕ) → 1 ≤ l → l ≤ length (N .lines) → getD trips (l - 1) 0 ≡ endCode (tripped N l)
+
+-- the place where each line's path first meets a breaker or a place, 0 if that is a breaker
+abbrev pub HoldsStops : Network → List ℕ → Type 0
+HoldsStops N stops = (l : ℕ) → 1 ≤ l → l ≤ length (N .lines) → getD stops (l - 1) 0 ≡ placeOn N (firstStop (breakersWith N []) (placeEnds N) (route N l))
+
+-- the first place on each line's path, 0 if it has none
+abbrev pub HoldsFirsts : Network → List ℕ → Type 0
+HoldsFirsts N firsts = (l : ℕ) → 1 ≤ l → l ≤ length (N .lines) → getD firsts (l - 1) 0 ≡ placeOn N (firstPlace (placeEnds N) (route N l))
+
+-- the breakers on each line's path
+abbrev pub HoldsCounts : Network → List ℕ → Type 0
+HoldsCounts N counts = (l : ℕ) → 1 ≤ l → l ≤ length (N .lines) → getD counts (l - 1) 0 ≡ pathBreakers N l
+
+-- what the path of each line meets first on its way to the HV station, and how many breakers are on it
 pub record HoldsLines (N : Network) (trips firsts stops counts : List ℕ) : Type 0 where
-  pub trip : (l : ℕ) → 1 ≤ l → l ≤ length (N .lines) → getD trips (l - 1) 0 ≡ endCode (tripped N l)
-  pub first : (l : ℕ) → 1 ≤ l → l ≤ length (N .lines) → getD firsts (l - 1) 0 ≡ placeOn N (firstPlace (placeEnds N) (route N l))
-  pub stop : (l : ℕ) → 1 ≤ l → l ≤ length (N .lines) → getD stops (l - 1) 0 ≡ placeOn N (firstStop (breakersWith N []) (placeEnds N) (route N l))
-  pub count : (l : ℕ) → 1 ≤ l → l ≤ length (N .lines) → getD counts (l - 1) 0 ≡ pathBreakers N l
+  pub trip : HoldsTrips N trips
+  pub first : HoldsFirsts N firsts
+  pub stop : HoldsStops N stops
+  pub count : HoldsCounts N counts
 
 -- how place p stands to place q: 1 behind it, 2 on the path onward from it, 0 neither
 unfoldable pub relation : Network → ℕ → ℕ → ℕ

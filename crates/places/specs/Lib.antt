@@ -9,3 +9,4 @@ pub mod Start
 pub mod Held
 pub mod Meets
 pub mod Climb
+pub mod Own

@@ -17,7 +17,7 @@ use Rattle.tree.specs.Outwards.{nearEnd, feeder}
 use Rattle.places.specs.Stops.{firstStop, firstPlace}
 use Rattle.places.specs.Sets.{route}
 use Rattle.places.specs.Apart.{placeEnds}
-use Rattle.places.specs.Held.{placeOn}
+use Rattle.places.specs.Held.{placeOn, HoldsSides}
 use Rattle.places.specs.declared.lines.Met.{Met}
 
 -- a number, or another where it is 0
@@ -38,12 +38,8 @@ pathBeyond N (suc k) = far (nearEnd N (suc k)) ∷ route N (suc k)
 
 -- the near end of each line, and the line that feeds it
 pub record HoldsFeeders (N : Network) (near feed : List ℕ) : Type 0 where
-  pub nears : (l : ℕ) → 1 ≤ l → l ≤ length (N .lines) → getD near (l - 1) 0 ≡ nearEnd N l .side
+  pub nears : HoldsSides N near
   pub feeds : (l : ℕ) → 1 ≤ l → l ≤ length (N .lines) → getD feed (l - 1) 0 ≡ feeder N l
-
--- the place that the path of each line meets first
-abbrev pub HoldsFirsts : Network → List ℕ → Type 0
-HoldsFirsts N firsts = (l : ℕ) → 1 ≤ l → l ≤ length (N .lines) → getD firsts (l - 1) 0 ≡ placeOn N (firstPlace (placeEnds N) (route N l))
 
 -- the four numbers of a line in their buffers
 abbrev pub metIn : List ℕ → List ℕ → List ℕ → List ℕ → ℕ → Met

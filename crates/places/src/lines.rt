@@ -12,8 +12,8 @@ ghost use Rattle.buffer.specs.Buffer.{networkIn};
 ghost use Rattle.tree.specs.Linked.{endCode, codeEnd};
 ghost use Rattle.tree.specs.Outwards.{nearEnd, feeder, Outwards};
 ghost use Rattle.places.specs.Sets.{route};
-ghost use Rattle.places.specs.Held.{HoldsEnds, HoldsPlaces, HoldsLines, HoldsRelations};
-ghost use Rattle.places.specs.Meets.{orElse, Meets, pathBeyond, HoldsFeeders, HoldsFirsts, metIn};
+ghost use Rattle.places.specs.Held.{HoldsEnds, HoldsPlaces, HoldsFirsts, HoldsLines, HoldsRelations};
+ghost use Rattle.places.specs.Meets.{orElse, Meets, pathBeyond, HoldsFeeders, metIn};
 ghost use Rattle.places.specs.Climb.{isAbove, placeAbove, Among, Noted, Kept};
 
 // The code of the end that a place is on.
