@@ -82,7 +82,7 @@ module _ (N : Network) (d : Read N) (r : Rules N) where
   vertex-ways u m = way N d r u (listed-in N u m)
 
   -- the series rule with a set's breakers, by the paths to the HV station
-  series-set : (S : List ℕ) → Valid N S
+  pub series-set : (S : List ℕ) → Valid N S
       → (seriesBroken (withBreakers N S) ≡ false) ↔ ((v : Vertex) → List·Memᴰ v (vertices N) → countOf (breakersWith N S) (pathToHV N v) ≤ N .head .series)
   series-set S v = (
     λ h u m. omega (arith, above .0 h u (within .1 u (listed-in N u m)), same-count u),

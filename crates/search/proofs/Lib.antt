@@ -3,9 +3,6 @@ pub mod Inserting
 pub mod Columns
 pub mod Copying
 pub mod Visiting
-pub mod Carrying
-pub mod Entering
-pub mod Trying
-pub mod Extending
-pub mod Saving
-pub mod Starting
+pub mod Nearby
+pub mod OneMore
+pub mod Levels

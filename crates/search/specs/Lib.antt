@@ -1,3 +1,3 @@
-pub mod Placing
+pub mod Chosen
 pub mod Bounds
 pub mod Walking

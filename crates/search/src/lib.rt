@@ -11,9 +11,13 @@ ghost use Rattle.model.specs.Walk.{insert, search};
 ghost use Rattle.walks.specs.Largest.{Falls};
 ghost use Rattle.buffer.specs.Buffer.{networkIn};
 ghost use Rattle.buffer.specs.Fits.{EndThere, PlaceThere};
+ghost use Rattle.savings.specs.Breakers.{endAt};
+ghost use Rattle.tree.specs.Linked.{endCode};
+ghost use Rattle.places.specs.Sets.{nearAt, weightAt, worstAt};
+ghost use Rattle.places.specs.Held.{HoldsEnds};
 ghost use Rattle.search.specs.Bounds.{Small, Savings, Column, Bounds};
-ghost use Rattle.search.specs.Placing.{stateIndex};
-ghost use Rattle.search.specs.Walking.{foundIn, visited, extended, tried, Counted, Ready, Entering, Trying, Extending, Left, Alone, Starting};
+ghost use Rattle.search.specs.Chosen.{Later};
+ghost use Rattle.search.specs.Walking.{foundIn, visited, Counted};
 use amounts::Total;
 
 // How far a walk has come: the best total, how many members the best set has, the visits, and whether the walk is spent.
@@ -30,22 +34,6 @@ pub struct Current {
     pub total: Total,
     pub cost: u64,
     pub hours: u64,
-}
-
-// Puts a breaker at an end, 1 or 2, of a line.
-pub fn put_breaker(work: &mut [u64; 5129], line: usize, side: usize)
-    requires { ⌜ EndThere (now work) line side ⌝ }
-    ensures { λ r. ⌜ now (work .exit) ≡ set (now (work .entry)) (5 * line + side + 1030) 1 ⌝ }
-{
-    work[5 * line + side + 1030] = 1;
-}
-
-// Takes the breaker at an end, 1 or 2, of a line out again: the end has its former state.
-pub fn take_breaker(work: &mut [u64; 5129], line: usize, side: usize, state: u64)
-    requires { ⌜ EndThere (now work) line side ⌝ }
-    ensures { λ r. ⌜ now (work .exit) ≡ set (now (work .entry)) (5 * line + side + 1030) state ⌝ }
-{
-    work[5 * line + side + 1030] = state;
 }
 
 // Inserts a number into a list in falling order, the first `size` numbers of an array.
@@ -149,237 +137,84 @@ fn within_means(net: &[u64; 5129], cost: u64, hours: u64) -> bool
     cost <= net[5] && hours <= net[6]
 }
 
-// Enters the set with one more place: puts its breaker, and answers the state that the end had.
-fn enter(net: &[u64; 5129], work: &mut [u64; 5129], place: usize) -> u64
-    requires { ⌜ PlaceThere (now net) place × EndThere (now work) (placeAt (networkIn (now net)) place .line) (placeAt (networkIn (now net)) place .side) ⌝ }
-    ensures { λ r. ⌜ (now (work .exit) ≡ set (now (work .entry)) (stateIndex (placeAt (networkIn (now (net .entry))) place)) 1) × (r ≡ getD (now (work .entry)) (stateIndex (placeAt (networkIn (now (net .entry))) place)) 0) ⌝ }
+// Where the level begins that a set of `size` members is read from: that of the set without its last member, or level 0.
+fn level_before(size: usize) -> usize
+    requires { ⌜ size ≤ 16 ⌝ }
+    ensures { λ r. ⌜ r ≡ (size - 1) * 195 ⌝ }
 {
-    let line = buffer::place_line(net, place);
-    let side = buffer::place_side(net, place);
-    let state = work[5 * line + side + 1030];
-    put_breaker(work, line, side);
-    state
+    if size == 0 {
+        return 0;
+    }
+    (size - 1) * 195
 }
 
-// Leaves the set with one more place: its end has its former state again.
-fn leave(net: &[u64; 5129], work: &mut [u64; 5129], place: usize, state: u64)
-    requires { ⌜ PlaceThere (now net) place × EndThere (now work) (placeAt (networkIn (now net)) place .line) (placeAt (networkIn (now net)) place .side) ⌝ }
-    ensures { λ r. ⌜ now (work .exit) ≡ set (now (work .entry)) (stateIndex (placeAt (networkIn (now (net .entry))) place)) state ⌝ }
-{
-    let line = buffer::place_line(net, place);
-    let side = buffer::place_side(net, place);
-    take_breaker(work, line, side, state);
-}
-
-// The total of the network in a buffer, from its tree and the customers behind each line. The impacts are written on the way.
-fn total_of_work(
-    work: &[u64; 5129],
-    near: &[u64; 768],
-    feed: &[u64; 768],
-    order: &[u64; 768],
-    sums: &[u64; 768],
-    impacts: &mut [u64; 768],
-) -> Total
-    requires { ⌜ Ready (networkIn (now work)) (now near) (now feed) (now order) (now sums) ⌝ }
-    ensures { λ r. ⌜ r .0 ≡ total (networkIn (now (work .entry))) ⌝ }
-{
-    outage::impacts(work, near, feed, order, sums, impacts);
-    outage::total_of(work, impacts)
-}
-
-// Visits and extends the current set with one more place, which may get `left` more, if it is allowed.
-fn extend_by(
+// The code of the breaker near a place, with the breakers of the set.
+fn near_of(
     net: &[u64; 5129],
-    work: &mut [u64; 5129],
-    near: &[u64; 768],
-    feed: &[u64; 768],
-    order: &[u64; 768],
-    sums: &[u64; 768],
-    impacts: &mut [u64; 768],
-    bounds: &[u64; 1105],
-    set: &mut [u64; 16],
-    best: &mut [u64; 16],
-    current: Current,
-    place: usize,
-    left: usize,
-    progress: Progress,
-) -> Progress
-    requires { ⌜ Trying (now net) (now work) (now near) (now feed) (now order) (now sums) (now bounds) (now set) current place left × (length (now best) ≡ 16) × Counted (networkIn (now net)) progress ⌝ }
-    ensures { λ r. ⌜ Left (networkIn (now (net .entry))) (tried (networkIn (now (net .entry))) left (take (current .size) (now (set .entry))) place (foundIn progress (now (best .entry)))) (current .size) r (now (work .entry)) (now (work .exit)) (now (set .entry)) (now (set .exit)) (now (best .exit)) ⌝ }
-{
-    let cost = current.cost + buffer::place_cost(net, place);
-    let hours = current.hours + buffer::place_hours(net, place);
-    if !within_means(net, cost, hours) {
-        return progress;
-    }
-    let state = enter(net, work, place);
-    let mut found = progress;
-    if !tree::over_series(work, near, feed, order) {
-        let total = total_of_work(work, near, feed, order, sums, impacts);
-        let size = current.size;
-        set[size] = place as u64;
-        found = visit(net, set, size + 1, total, best, found);
-        found = extend(
-            net,
-            work,
-            near,
-            feed,
-            order,
-            sums,
-            impacts,
-            bounds,
-            set,
-            best,
-            Current {
-                size: size + 1,
-                total,
-                cost,
-                hours,
-            },
-            place + 1,
-            left,
-            found,
-        );
-    }
-    leave(net, work, place, state);
-    found
-}
-
-// Extends the current set, which may get `left` more places, by each of the places from `from` on in rising order.
-fn extend(
-    net: &[u64; 5129],
-    work: &mut [u64; 5129],
-    near: &[u64; 768],
-    feed: &[u64; 768],
-    order: &[u64; 768],
-    sums: &[u64; 768],
-    impacts: &mut [u64; 768],
-    bounds: &[u64; 1105],
-    set: &mut [u64; 16],
-    best: &mut [u64; 16],
-    current: Current,
-    from: usize,
-    left: usize,
-    progress: Progress,
-) -> Progress
-    requires { ⌜ Extending (now net) (now work) (now near) (now feed) (now order) (now sums) (now bounds) (now set) current from left × (length (now best) ≡ 16) × Counted (networkIn (now net)) progress ⌝ }
-    ensures { λ r. ⌜ Left (networkIn (now (net .entry))) (extended (networkIn (now (net .entry))) left (take (current .size) (now (set .entry))) from (foundIn progress (now (best .entry)))) (current .size) r (now (work .entry)) (now (work .exit)) (now (set .entry)) (now (set .exit)) (now (best .exit)) ⌝ }
-{
-    let mut found = progress;
-    if left == 0 {
-        return found;
-    }
-    for place in from..buffer::places(net) + 1 {
-        if found.spent {
-            return found;
-        }
-        if found.best.number() + bounds[left * 65 + place - 1] <= current.total.number() {
-            return found;
-        }
-        found = extend_by(
-            net,
-            work,
-            near,
-            feed,
-            order,
-            sums,
-            impacts,
-            bounds,
-            set,
-            best,
-            current,
-            place,
-            left - 1,
-            found,
-        );
-    }
-    found
-}
-
-// A place's saving: how much the file's total falls with its breaker alone.
-fn saving_of(
-    net: &[u64; 5129],
-    work: &mut [u64; 5129],
-    near: &[u64; 768],
-    feed: &[u64; 768],
-    order: &[u64; 768],
-    sums: &[u64; 768],
-    impacts: &mut [u64; 768],
-    alone: Total,
+    relations: &[u64; 4225],
+    ends: &[u64; 65],
+    levels: &[u64; 3120],
+    set: &[u64; 16],
+    size: usize,
+    last: usize,
     place: usize,
 ) -> u64
-    requires { ⌜ Entering (now net) (now work) (now near) (now feed) (now order) (now sums) [] place × (alone .0 ≡ total (networkIn (now net))) ⌝ }
-    ensures { λ r. ⌜ (r ≡ saving (networkIn (now (net .entry))) place) × (now (work .exit) ≡ now (work .entry)) ⌝ }
+    requires { ⌜ Later (networkIn (now net)) (now relations) (now levels) (take size (now set)) size last place × HoldsEnds (networkIn (now net)) (now ends) ⌝ }
+    ensures { λ r. ⌜ r ≡ endCode (nearAt (networkIn (now (net .entry))) (take size (now (set .entry))) (endAt (networkIn (now (net .entry))) place)) ⌝ }
 {
-    let former = enter(net, work, place);
-    let total = total_of_work(work, near, feed, order, sums, impacts);
-    leave(net, work, place, former);
-    alone.number() - total.number()
-}
-
-// The saving of each place.
-pub fn savings_of(
-    net: &[u64; 5129],
-    work: &mut [u64; 5129],
-    near: &[u64; 768],
-    feed: &[u64; 768],
-    order: &[u64; 768],
-    sums: &[u64; 768],
-    impacts: &mut [u64; 768],
-    savings: &mut [u64; 64],
-)
-    requires { ⌜ Alone (now net) (now work) (now near) (now feed) (now order) (now sums) × (length (now savings) ≡ 64) ⌝ }
-    ensures { λ r. ⌜ (length (now (savings .exit)) ≡ 64) × (take (length (networkIn (now (net .entry)) .places)) (now (savings .exit)) ≡ map (λ p. saving (networkIn (now (net .entry))) p) (placeNumbers (networkIn (now (net .entry))))) × (now (work .exit) ≡ now (work .entry)) ⌝ }
-{
-    let alone = total_of_work(work, near, feed, order, sums, impacts);
-    for i in 0..buffer::places(net) {
-        savings[i] = saving_of(net, work, near, feed, order, sums, impacts, alone, i + 1);
+    let at = level_before(size);
+    let near = levels[at + place];
+    if relations[last * 65 + place] == 1 && near == levels[at + last] {
+        return ends[last];
     }
+    near
 }
 
-// The search: the empty set is visited first, then it is extended by at most `adds` of the places.
-pub fn walk(
+// The weight of a place, with the breakers of the set.
+fn weight_of(
     net: &[u64; 5129],
-    work: &mut [u64; 5129],
-    near: &[u64; 768],
-    feed: &[u64; 768],
-    order: &[u64; 768],
-    sums: &[u64; 768],
-    impacts: &mut [u64; 768],
-    bounds: &[u64; 1105],
-    set: &mut [u64; 16],
-    best: &mut [u64; 16],
-) -> Progress
-    requires { ⌜ Starting (now net) (now work) (now near) (now feed) (now order) (now sums) (now bounds) (now set) (now best) ⌝ }
-    ensures { λ r. ⌜ (foundIn r (now (best .exit)) ≡ search (networkIn (now (net .entry)))) × (now (work .exit) ≡ now (work .entry)) × (length (now (best .exit)) ≡ 16) × (r .count ≤ 16) ⌝ }
+    relations: &[u64; 4225],
+    levels: &[u64; 3120],
+    set: &[u64; 16],
+    size: usize,
+    last: usize,
+    place: usize,
+) -> u64
+    requires { ⌜ Later (networkIn (now net)) (now relations) (now levels) (take size (now set)) size last place ⌝ }
+    ensures { λ r. ⌜ r ≡ weightAt (networkIn (now (net .entry))) (take size (now (set .entry))) (endAt (networkIn (now (net .entry))) place) ⌝ }
 {
-    let total = total_of_work(work, near, feed, order, sums, impacts);
-    let start = Progress {
-        best: total,
-        count: 0,
-        visits: 0,
-        spent: false,
-    };
-    let first = visit(net, set, 0, total, best, start);
-    extend(
-        net,
-        work,
-        near,
-        feed,
-        order,
-        sums,
-        impacts,
-        bounds,
-        set,
-        best,
-        Current {
-            size: 0,
-            total,
-            cost: 0,
-            hours: 0,
-        },
-        1,
-        net[4] as usize,
-        first,
-    )
+    let at = level_before(size);
+    let weight = levels[at + 65 + place];
+    if relations[last * 65 + place] == 2 && levels[at + place] == levels[at + last] {
+        return weight - levels[at + 65 + last];
+    }
+    weight
+}
+
+// The most breakers in series with a place, with the breakers of the set.
+fn worst_of(
+    net: &[u64; 5129],
+    relations: &[u64; 4225],
+    levels: &[u64; 3120],
+    set: &[u64; 16],
+    size: usize,
+    last: usize,
+    place: usize,
+) -> u64
+    requires { ⌜ Later (networkIn (now net)) (now relations) (now levels) (take size (now set)) size last place ⌝ }
+    ensures { λ r. ⌜ r ≡ worstAt (networkIn (now (net .entry))) (take size (now (set .entry))) (endAt (networkIn (now (net .entry))) place) ⌝ }
+{
+    let at = level_before(size);
+    let worst = levels[at + 130 + place];
+    let relation = relations[last * 65 + place];
+    if relation == 1 {
+        return worst + 1;
+    }
+    if relation == 2 {
+        let through = levels[at + 130 + last] + 1;
+        if worst < through {
+            return through;
+        }
+    }
+    worst
 }

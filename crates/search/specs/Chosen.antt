@@ -1,0 +1,38 @@
+-- The set of places that a walk has chosen, as it is read from a buffer of levels: the level of the set without its last member has
+-- each later place's values, and with the last member they change by how the two places stand to each other.
+use Prim.Native.Nat.{ℕ, _+_, _-_, _≤_, _<_}
+use mathlib.Core.Path.{_≡_}
+use mathlib.Core.Bool.{false}
+use mathlib.Core.Logic.{_⊎_}
+use mathlib.Core.List.{List, [], _∷_, _++_}
+use lib.ListN.{length}
+use Rattle.model.specs.Network.{Network}
+use Rattle.model.specs.Rules.{seriesBroken}
+use Rattle.model.specs.Sets.{withBreakers}
+use Rattle.theory.specs.Reading.{All}
+use Rattle.theory.specs.Best.{Accepted}
+use Rattle.places.specs.Held.{HoldsRelations, Level}
+
+-- every member is a place before q
+abbrev pub Before : ℕ → List ℕ → Type 0
+Before q S = All (λ p. (1 ≤ p) × (p < q)) S
+
+-- The set S has `size` members, the last of them `last`. The empty set has 0 for the last, and is read from its own level.
+pub record Chosen (N : Network) (relations levels S : List ℕ) (size last : ℕ) : Type 0 where
+  pub accepted : Accepted N
+  pub related : HoldsRelations N relations
+  pub few : size ≤ 16
+  pub high : last ≤ length (N .places)
+  pub members : Before (last + 1) S
+  pub series : seriesBroken (withBreakers N S) ≡ false
+  pub rest : List ℕ
+  pub from : ℕ
+  pub level : Level N rest (size - 1) from levels
+  pub within : from ≤ last + 1
+  pub split : ((last ≡ 0) × (S ≡ rest)) ⊎ ((from ≤ last) × (1 ≤ last) × (S ≡ rest ++ (last ∷ [])) × Before last rest)
+
+-- a place after the last member
+pub record Later (N : Network) (relations levels S : List ℕ) (size last place : ℕ) : Type 0 where
+  pub chosen : Chosen N relations levels S size last
+  pub low : last < place
+  pub high : place ≤ length (N .places)
