@@ -7,6 +7,10 @@ use Rattle.model.specs.Network.{headOf}
 use Rattle.buffer.specs.Buffer.{networkIn}
 
 module _ (b : List ℕ) where
+  pub series-at : networkIn b .head .series ≡ getD b 3 0
+  unfolding networkIn headOf
+  series-at = refl
+
   pub adds-at : networkIn b .head .adds ≡ getD b 4 0
   unfolding networkIn headOf
   adds-at = refl

@@ -6,3 +6,7 @@ pub mod Visiting
 pub mod Nearby
 pub mod OneMore
 pub mod Levels
+pub mod Falling
+pub mod Entering
+pub mod Trying
+pub mod Saving

@@ -1,17 +1,18 @@
 -- The set of places that a walk has chosen, as it is read from a buffer of levels: the level of the set without its last member has
 -- each later place's values, and with the last member they change by how the two places stand to each other.
-use Prim.Native.Nat.{ℕ, _+_, _-_, _≤_, _<_}
+use Prim.Native.Nat.{ℕ, _+_, _*_, _-_, _≤_, _<_}
 use mathlib.Core.Path.{_≡_}
 use mathlib.Core.Bool.{false}
 use mathlib.Core.Logic.{_⊎_}
 use mathlib.Core.List.{List, [], _∷_, _++_}
-use lib.ListN.{length}
+use lib.ListN.{length, take}
 use Rattle.model.specs.Network.{Network}
 use Rattle.model.specs.Rules.{seriesBroken}
 use Rattle.model.specs.Sets.{withBreakers}
 use Rattle.theory.specs.Reading.{All}
 use Rattle.theory.specs.Best.{Accepted}
-use Rattle.places.specs.Held.{HoldsRelations, Level}
+use Rattle.outage.specs.Held.{HoldsCustomers}
+use Rattle.places.specs.Held.{HoldsRelations, HoldsEnds, Level}
 
 -- every member is a place before q
 abbrev pub Before : ℕ → List ℕ → Type 0
@@ -36,3 +37,24 @@ pub record Later (N : Network) (relations levels S : List ℕ) (size last place 
   pub chosen : Chosen N relations levels S size last
   pub low : last < place
   pub high : place ≤ length (N .places)
+
+-- the file, how its places stand to each other, their ends, and the customers behind each line
+pub record Tables (N : Network) (relations ends sums : List ℕ) : Type 0 where
+  pub accepted : Accepted N
+  pub related : HoldsRelations N relations
+  pub coded : HoldsEnds N ends
+  pub behind : HoldsCustomers N sums
+
+-- the set may get a level of its own
+pub record Entering (N : Network) (relations ends levels S : List ℕ) (size last : ℕ) : Type 0 where
+  pub chosen : Chosen N relations levels S size last
+  pub coded : HoldsEnds N ends
+  pub long : length levels ≡ 3120
+  pub low : 1 ≤ size
+  pub high : size ≤ 15
+
+-- the set has a level of its own, and those before it are as they were
+pub record Entered (N : Network) (S : List ℕ) (size from : ℕ) (levels levels' : List ℕ) : Type 0 where
+  pub long : length levels' ≡ 3120
+  pub level : Level N S size from levels'
+  pub same : take (size * 195) levels' ≡ take (size * 195) levels

@@ -1,23 +1,17 @@
--- !!! FROM THE LEAD: the design of the state changed (one level in place, saved rows, leave): read /tmp/hd/CHANGE.md before going on, then delete this line !!!
 -- The walk over sets of places: what it has found, what it reads, and where it stands.
-use Prim.Native.Nat.{ℕ, _+_, _-_, _≤_}
+use Prim.Native.Nat.{ℕ, _+_, _*_, _-_, _≤_, _<_}
 use mathlib.Core.Path.{_≡_}
 use mathlib.Core.Bool.{true, false}
 use mathlib.Core.List.{List, [], _∷_, _++_, map}
 use lib.ListN.{length, take}
 use Rattle.model.specs.Lists.{sum, numbers}
 use Rattle.model.specs.Network.{Network}
-use Rattle.model.specs.Sets.{placeNumbers, placeAt, withBreakers, allowed, setTotal, saving}
+use Rattle.model.specs.Sets.{placeNumbers, placeAt, allowed, setTotal, saving}
 use Rattle.model.specs.Walk.{Found, visit, extend}
-use Rattle.savings.specs.Breakers.{Valid}
-use Rattle.theory.specs.Reading.{Read}
-use Rattle.theory.specs.Radial.{Rules}
-use Rattle.theory.specs.Best.{Accepted}
-use Rattle.tree.specs.Outwards.{Outwards}
 use Rattle.outage.specs.Held.{HoldsCustomers}
-use Rattle.buffer.specs.Buffer.{networkIn}
-use Rattle.buffer.specs.Fits.{PlaceThere}
+use Rattle.places.specs.Held.{HoldsEnds}
 use Rattle.search.specs.Bounds.{Bounds}
+use Rattle.search.specs.Chosen.{Chosen}
 use Rattle.search.specs.declared.Progress.{Progress}
 use Rattle.search.specs.declared.Current.{Current}
 
@@ -52,3 +46,32 @@ pub record Counted (N : Network) (p : Progress) : Type 0 where
 -- the table of the bounds is that of the file's savings
 abbrev pub HoldsBounds : Network → List ℕ → Type 0
 HoldsBounds N bounds = Bounds (map (λ p. saving N p) (placeNumbers N)) 0 bounds
+
+-- How many numbers the levels have up to the one that a set of `size` members is read from.
+abbrev pub readTo : ℕ → ℕ
+readTo size = (size - 1) * 195 + 195
+
+-- the set that the walk stands at
+pub record Standing (N : Network) (relations levels set : List ℕ) (at : Current) : Type 0 where
+  pub setLong : length set ≡ 16
+  pub chosen : Chosen N relations levels (take (at .size) set) (at .size) (at .last)
+  pub total : at .total .0 ≡ setTotal N (take (at .size) set)
+  pub cost : at .cost ≡ sum (map (λ p. placeAt N p .cost) (take (at .size) set))
+  pub hours : at .hours ≡ sum (map (λ p. placeAt N p .hours) (take (at .size) set))
+  pub affordable : at .cost ≤ N .head .money
+  pub timely : at .hours ≤ N .head .hours
+
+-- the set may get one more place
+pub record Trying (N : Network) (relations levels set : List ℕ) (at : Current) (place : ℕ) : Type 0 where
+  pub standing : Standing N relations levels set at
+  pub low : at .last < place
+  pub high : place ≤ length (N .places)
+  pub few : at .size + 1 ≤ N .head .adds
+
+-- where the walk stands with one more place
+pub record Next (N : Network) (set : List ℕ) (at : Current) (place : ℕ) (next : Current) : Type 0 where
+  pub size : next .size ≡ at .size + 1
+  pub last : next .last ≡ place
+  pub total : next .total .0 ≡ setTotal N (take (at .size) set ++ (place ∷ []))
+  pub cost : next .cost ≡ sum (map (λ p. placeAt N p .cost) (take (at .size) set ++ (place ∷ [])))
+  pub hours : next .hours ≡ sum (map (λ p. placeAt N p .hours) (take (at .size) set ++ (place ∷ [])))

@@ -1,24 +1,27 @@
-// The search: a walk over sets of places, with the breakers of the current set put into a copy of the network's buffer.
+// The search: a walk over sets of places. For each set on the way a level of a buffer has what is known of the later places.
 ghost use mathlib.Core.Path.{_≡_};
 ghost use mathlib.Core.Bool.{_&&_};
-ghost use mathlib.Core.List.{[], map};
+ghost use mathlib.Core.List.{[], _∷_, _++_, map};
 ghost use Prim.Native.Nat.{ℕ, _+_, _*_, _-_, _≤_, _<_};
 ghost use lib.Dec.{leb};
-ghost use lib.ListN.{length, getD, take, set};
-ghost use Rattle.model.specs.Outage.{total};
-ghost use Rattle.model.specs.Sets.{placeNumbers, placeAt, setTotal, saving};
-ghost use Rattle.model.specs.Walk.{insert, search};
+ghost use lib.ListN.{length, getD, take};
+ghost use Rattle.model.specs.Sets.{placeNumbers, placeAt, allowed, setTotal, saving};
+ghost use Rattle.model.specs.Walk.{insert};
 ghost use Rattle.walks.specs.Largest.{Falls};
-ghost use Rattle.buffer.specs.Buffer.{networkIn};
-ghost use Rattle.buffer.specs.Fits.{EndThere, PlaceThere};
 ghost use Rattle.savings.specs.Breakers.{endAt};
+ghost use Rattle.theory.specs.Reading.{Read};
+ghost use Rattle.buffer.specs.Buffer.{networkIn};
+ghost use Rattle.buffer.specs.Fits.{PlaceThere};
 ghost use Rattle.tree.specs.Linked.{endCode};
+ghost use Rattle.outage.specs.Held.{HoldsCustomers};
 ghost use Rattle.places.specs.Sets.{nearAt, weightAt, worstAt};
-ghost use Rattle.places.specs.Held.{HoldsEnds};
+ghost use Rattle.places.specs.Held.{HoldsEnds, Level};
 ghost use Rattle.search.specs.Bounds.{Small, Savings, Column, Bounds};
-ghost use Rattle.search.specs.Chosen.{Later};
-ghost use Rattle.search.specs.Walking.{foundIn, visited, Counted};
+ghost use Rattle.search.specs.Chosen.{Later, Entering, Entered, Tables};
+ghost use Rattle.search.specs.Walking.{foundIn, visited, Counted, Trying, Next};
+use amounts::Customers;
 use amounts::Total;
+use amounts::Weight;
 
 // How far a walk has come: the best total, how many members the best set has, the visits, and whether the walk is spent.
 pub struct Progress {
@@ -28,9 +31,10 @@ pub struct Progress {
     pub spent: bool,
 }
 
-// The set that a walk stands at: how many members it has, its total, its cost and its hours.
+// The set that a walk stands at: how many members it has, the last of them (0 for the empty set), its total, its cost and its hours.
 pub struct Current {
     pub size: usize,
+    pub last: usize,
     pub total: Total,
     pub cost: u64,
     pub hours: u64,
@@ -217,4 +221,148 @@ fn worst_of(
         }
     }
     worst
+}
+
+// Writes the level of the set: of each place after its last member.
+fn enter(
+    net: &[u64; 5129],
+    relations: &[u64; 4225],
+    ends: &[u64; 65],
+    levels: &mut [u64; 3120],
+    set: &[u64; 16],
+    size: usize,
+    last: usize,
+)
+    requires { ⌜ Entering (networkIn (now net)) (now relations) (now ends) (now levels) (take size (now set)) size last ⌝ }
+    ensures { λ r. ⌜ Entered (networkIn (now (net .entry))) (take size (now (set .entry))) size (last + 1) (now (levels .entry)) (now (levels .exit)) ⌝ }
+{
+    let at = size * 195;
+    for place in last + 1..buffer::places(net) + 1 {
+        let near = near_of(net, relations, ends, levels, set, size, last, place);
+        let weight = weight_of(net, relations, levels, set, size, last, place);
+        let worst = worst_of(net, relations, levels, set, size, last, place);
+        levels[at + place] = near;
+        levels[at + 65 + place] = weight;
+        levels[at + 130 + place] = worst;
+    }
+}
+
+// How much the total of the set falls with one more place.
+fn fall(
+    net: &[u64; 5129],
+    relations: &[u64; 4225],
+    ends: &[u64; 65],
+    sums: &[u64; 768],
+    levels: &[u64; 3120],
+    set: &[u64; 16],
+    size: usize,
+    last: usize,
+    place: usize,
+) -> Total
+    requires { ⌜ Later (networkIn (now net)) (now relations) (now levels) (take size (now set)) size last place × HoldsEnds (networkIn (now net)) (now ends) × HoldsCustomers (networkIn (now net)) (now sums) ⌝ }
+    ensures { λ r. ⌜ r .0 + setTotal (networkIn (now (net .entry))) (take size (now (set .entry)) ++ (place ∷ [])) ≡ setTotal (networkIn (now (net .entry))) (take size (now (set .entry))) ⌝ }
+{
+    let near = near_of(net, relations, ends, levels, set, size, last, place) as usize;
+    let line = buffer::place_line(net, place);
+    let spared = sums[(near + 1) / 2 - 1] - sums[line - 1];
+    let weight = weight_of(net, relations, levels, set, size, last, place);
+    amounts::times(Weight::new(weight), Customers::new(spared))
+}
+
+// The saving of each place: how much the file's total falls with its breaker alone.
+pub fn savings_of(
+    net: &[u64; 5129],
+    relations: &[u64; 4225],
+    ends: &[u64; 65],
+    sums: &[u64; 768],
+    levels: &[u64; 3120],
+    savings: &mut [u64; 64],
+)
+    requires { ⌜ Tables (networkIn (now net)) (now relations) (now ends) (now sums) × Level (networkIn (now net)) [] 0 1 (now levels) × (length (now savings) ≡ 64) ⌝ }
+    ensures { λ r. ⌜ (length (now (savings .exit)) ≡ 64) × (take (length (networkIn (now (net .entry)) .places)) (now (savings .exit)) ≡ map (λ p. saving (networkIn (now (net .entry))) p) (placeNumbers (networkIn (now (net .entry))))) ⌝ }
+{
+    let none = [0u64; 16];
+    for i in 0..buffer::places(net) {
+        savings[i] = fall(net, relations, ends, sums, levels, &none, 0, 0, i + 1).number();
+    }
+}
+
+// The cost of the set with one more place.
+fn cost_with(net: &[u64; 5129], current: Current, place: usize) -> u64
+    requires { ⌜ PlaceThere (now net) place × Read (networkIn (now net)) × (current .cost ≤ networkIn (now net) .head .money) ⌝ }
+    ensures { λ r. ⌜ r ≡ current .cost + placeAt (networkIn (now (net .entry))) place .cost ⌝ }
+{
+    current.cost + buffer::place_cost(net, place)
+}
+
+// The hours of the set with one more place.
+fn hours_with(net: &[u64; 5129], current: Current, place: usize) -> u64
+    requires { ⌜ PlaceThere (now net) place × Read (networkIn (now net)) × (current .hours ≤ networkIn (now net) .head .hours) ⌝ }
+    ensures { λ r. ⌜ r ≡ current .hours + placeAt (networkIn (now (net .entry))) place .hours ⌝ }
+{
+    current.hours + buffer::place_hours(net, place)
+}
+
+// Whether the set with one more place is allowed.
+fn may_get(
+    net: &[u64; 5129],
+    relations: &[u64; 4225],
+    levels: &[u64; 3120],
+    set: &[u64; 16],
+    current: Current,
+    place: usize,
+) -> bool
+    requires { ⌜ Trying (networkIn (now net)) (now relations) (now levels) (now set) current place ⌝ }
+    ensures { λ r. ⌜ r ≡ allowed (networkIn (now (net .entry))) (take (current .size) (now (set .entry)) ++ (place ∷ [])) ⌝ }
+{
+    let cost = cost_with(net, current, place);
+    let hours = hours_with(net, current, place);
+    if !within_means(net, cost, hours) {
+        return false;
+    }
+    worst_of(
+        net,
+        relations,
+        levels,
+        set,
+        current.size,
+        current.last,
+        place,
+    )
+        < net[3]
+}
+
+// The set with one more place.
+fn with_place(
+    net: &[u64; 5129],
+    relations: &[u64; 4225],
+    ends: &[u64; 65],
+    sums: &[u64; 768],
+    levels: &[u64; 3120],
+    set: &[u64; 16],
+    current: Current,
+    place: usize,
+) -> Current
+    requires { ⌜ Trying (networkIn (now net)) (now relations) (now levels) (now set) current place × HoldsEnds (networkIn (now net)) (now ends) × HoldsCustomers (networkIn (now net)) (now sums) ⌝ }
+    ensures { λ r. ⌜ Next (networkIn (now (net .entry))) (now (set .entry)) current place r ⌝ }
+{
+    let size = current.size;
+    let saved = fall(
+        net,
+        relations,
+        ends,
+        sums,
+        levels,
+        set,
+        size,
+        current.last,
+        place,
+    );
+    Current {
+        size: size + 1,
+        last: place,
+        total: current.total.minus(saved),
+        cost: cost_with(net, current, place),
+        hours: hours_with(net, current, place),
+    }
 }
