@@ -1,6 +1,7 @@
 -- The level of a set, written place by place.
 use Prim.Native.Nat.{ℕ, _+_, _*_, _-_, _≤_, _<_}
 use mathlib.Core.Path.{_≡_, refl, sym, ap, _∙_}
+use mathlib.Core.Bool.{Bool, false}
 use mathlib.Core.Logic.{⊎-elim}
 use mathlib.Core.List.{List}
 use native.Mathlib.Nat.{eq-or-lt-of-le}
@@ -12,8 +13,7 @@ use Rattle.savings.specs.Breakers.{endAt}
 use Rattle.tree.specs.Linked.{endCode}
 use Rattle.places.specs.Sets.{nearAt, weightAt, worstAt}
 use Rattle.places.specs.Held.{Level}
-use Rattle.search.specs.Chosen.{Chosen, Later, Entering, Entered}
-use Rattle.search.specs.Walking.{readTo}
+use Rattle.search.specs.Chosen.{Chosen, Later, readTo, Entering, Entered}
 
 -- a number among the first of a buffer that are as they were
 getD-kept : (n i : ℕ) (levels levels' : List ℕ) → take n levels' ≡ take n levels → i < n → getD levels' i 0 ≡ getD levels i 0
@@ -45,28 +45,25 @@ chosen-kept {N} {relations} {levels} {S} {size} {last} x levels' n h e = record 
 }
 
 -- the places before `place` are written
-pub record Written (N : Network) (S : List ℕ) (size last : ℕ) (levels₀ : List ℕ) (place end : ℕ) (levels : List ℕ) : Type 0 where
-  pub low : last < place
+pub record Written (N : Network) (S : List ℕ) (size from : ℕ) (levels₀ : List ℕ) (place end : ℕ) (levels : List ℕ) : Type 0 where
+  pub low : from ≤ place
   pub within : place ≤ end
   pub all : end ≡ length (N .places) + 1
   pub long : length levels ≡ 3120
   pub same : take (size * 195) levels ≡ take (size * 195) levels₀
-  pub near : (p : ℕ) → last < p → p < place → getD levels (size * 195 + p) 0 ≡ endCode (nearAt N S (endAt N p))
-  pub weight : (p : ℕ) → last < p → p < place → getD levels (size * 195 + 65 + p) 0 ≡ weightAt N S (endAt N p)
-  pub worst : (p : ℕ) → last < p → p < place → getD levels (size * 195 + 130 + p) 0 ≡ worstAt N S (endAt N p)
+  pub near : (p : ℕ) → from ≤ p → p < place → getD levels (size * 195 + p) 0 ≡ endCode (nearAt N S (endAt N p))
+  pub weight : (p : ℕ) → from ≤ p → p < place → getD levels (size * 195 + 65 + p) 0 ≡ weightAt N S (endAt N p)
+  pub worst : (p : ℕ) → from ≤ p → p < place → getD levels (size * 195 + 130 + p) 0 ≡ worstAt N S (endAt N p)
 
 -- a number other than the three that are set
 set3-other : (l : List ℕ) (i j k a b c q : ℕ) → (q ≡ i → ⊥) → (q ≡ j → ⊥) → (q ≡ k → ⊥) → getD (set (set (set l i a) j b) k c) q 0 ≡ getD l q 0
 set3-other l i j k a b c q x y z = getD-set-other (set (set l i a) j b) k q c 0 z ∙ getD-set-other (set l i a) j q b 0 y ∙ getD-set-other l i q a 0 x
 
-module _ {N : Network} {relations ends levels₀ S : List ℕ} {size last : ℕ} (x : Entering N relations ends levels₀ S size last) where
-  pub places-few : length (N .places) ≤ 64
-  places-few = x .chosen .accepted .read .placeCount
-
-  pub written-none : (end : ℕ) → end ≡ length (N .places) + 1 → Written N S size last levels₀ (last + 1) end levels₀
+module _ {N : Network} {relations ends levels₀ S : List ℕ} {size last from : ℕ} {entered : Bool} (x : Entering N relations ends levels₀ S size last from entered) (n : entered ≡ false) where
+  pub written-none : (end : ℕ) → end ≡ length (N .places) + 1 → Written N S size from levels₀ from end levels₀
   written-none end e = record {
     low = omega arith;
-    within = omega (arith, x .chosen .high);
+    within = omega (arith, x .high);
     all = e;
     long = x .long;
     same = refl;
@@ -75,11 +72,11 @@ module _ {N : Network} {relations ends levels₀ S : List ℕ} {size last : ℕ}
     worst = λ p a b. absurd (omega arith);
   }
 
-  module _ {place end : ℕ} {levels : List ℕ} (w : Written N S size last levels₀ place end levels) where
+  module _ {place end : ℕ} {levels : List ℕ} (w : Written N S size from levels₀ place end levels) where
     pub later : place < end → Later N relations levels S size last place
     later h = record {
-      chosen = chosen-kept (x .chosen) levels (size * 195) (omega (arith, x .low)) (w .same);
-      low = w .low;
+      chosen = chosen-kept (x .chosen) levels (size * 195) (omega (arith, x .none n)) (w .same);
+      low = omega (arith, x .low, w .low);
       high = omega (arith, w .all);
     }
 
@@ -97,7 +94,7 @@ module _ {N : Network} {relations ends levels₀ S : List ℕ} {size last : ℕ}
       new = set (set (set levels i a) j b) k c
 
       few : place ≤ 64
-      few = omega (arith, w .all, places-few)
+      few = omega (arith, w .all, x .chosen .accepted .read .placeCount)
 
       new-long : length new ≡ 3120
       new-long = length-set (set (set levels i a) j b) k c ∙ length-set (set levels i a) j b ∙ length-set levels i a ∙ w .long
@@ -106,15 +103,15 @@ module _ {N : Network} {relations ends levels₀ S : List ℕ} {size last : ℕ}
       old q = set3-other levels i j k a b c q
 
       at-i : getD new i 0 ≡ a
-      at-i = getD-set-other (set (set levels i a) j b) k i c 0 (λ z. omega arith) ∙ getD-set-other (set levels i a) j i b 0 (λ z. omega arith) ∙ getD-set-same levels i a 0 (omega (arith, w .long, few, x .high))
+      at-i = getD-set-other (set (set levels i a) j b) k i c 0 (λ z. omega arith) ∙ getD-set-other (set levels i a) j i b 0 (λ z. omega arith) ∙ getD-set-same levels i a 0 (omega (arith, w .long, few, x .few))
 
       at-j : getD new j 0 ≡ b
-      at-j = getD-set-other (set (set levels i a) j b) k j c 0 (λ z. omega arith) ∙ getD-set-same (set levels i a) j b 0 (omega (arith, length-set levels i a, w .long, few, x .high))
+      at-j = getD-set-other (set (set levels i a) j b) k j c 0 (λ z. omega arith) ∙ getD-set-same (set levels i a) j b 0 (omega (arith, length-set levels i a, w .long, few, x .few))
 
       at-k : getD new k 0 ≡ c
-      at-k = getD-set-same (set (set levels i a) j b) k c 0 (omega (arith, length-set (set levels i a) j b, length-set levels i a, w .long, few, x .high))
+      at-k = getD-set-same (set (set levels i a) j b) k c 0 (omega (arith, length-set (set levels i a) j b, length-set levels i a, w .long, few, x .few))
 
-      pub written-more : Written N S size last levels₀ (place + 1) end new
+      pub written-more : Written N S size from levels₀ (place + 1) end new
       written-more = record {
         low = omega (arith, w .low);
         within = omega arith;
@@ -139,13 +136,13 @@ module _ {N : Network} {relations ends levels₀ S : List ℕ} {size last : ℕ}
             (eq-or-lt-of-le {n = p} {m = place} (omega arith));
       }
 
-    pub written-all : end ≤ place → Entered N S size (last + 1) levels₀ levels
+    pub written-all : end ≤ place → Entered N S size from levels₀ levels
     written-all h = record {
       long = w .long;
       level = record {
-        near = λ p a b. w .near p (omega arith) (omega (arith, w .all));
-        weight = λ p a b. w .weight p (omega arith) (omega (arith, w .all));
-        worst = λ p a b. w .worst p (omega arith) (omega (arith, w .all));
+        near = λ p a b. w .near p a (omega (arith, w .all));
+        weight = λ p a b. w .weight p a (omega (arith, w .all));
+        worst = λ p a b. w .worst p a (omega (arith, w .all));
       };
-      same = w .same;
+      same = ap (λ k. take k levels) {x = readTo size} {y = size * 195} (omega (arith, x .none n)) ∙ w .same ∙ ap (λ k. take k levels₀) {x = size * 195} {y = readTo size} (omega (arith, x .none n));
     }

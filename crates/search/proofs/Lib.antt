@@ -10,3 +10,5 @@ pub mod Falling
 pub mod Entering
 pub mod Trying
 pub mod Saving
+pub mod Bounding
+pub mod Extending

@@ -2,7 +2,7 @@
 -- each later place's values, and with the last member they change by how the two places stand to each other.
 use Prim.Native.Nat.{ℕ, _+_, _*_, _-_, _≤_, _<_}
 use mathlib.Core.Path.{_≡_}
-use mathlib.Core.Bool.{false}
+use mathlib.Core.Bool.{Bool, true, false}
 use mathlib.Core.Logic.{_⊎_}
 use mathlib.Core.List.{List, [], _∷_, _++_}
 use lib.ListN.{length, take}
@@ -45,16 +45,23 @@ pub record Tables (N : Network) (relations ends sums : List ℕ) : Type 0 where
   pub coded : HoldsEnds N ends
   pub behind : HoldsCustomers N sums
 
--- the set may get a level of its own
-pub record Entering (N : Network) (relations ends levels S : List ℕ) (size last : ℕ) : Type 0 where
+-- How many numbers the levels have up to the one that a set of `size` members is read from.
+abbrev pub readTo : ℕ → ℕ
+readTo size = (size - 1) * 195 + 195
+
+-- the set is to have a level of its own, of the places from `from` on, if it has none yet
+pub record Entering (N : Network) (relations ends levels S : List ℕ) (size last from : ℕ) (entered : Bool) : Type 0 where
   pub chosen : Chosen N relations levels S size last
   pub coded : HoldsEnds N ends
   pub long : length levels ≡ 3120
-  pub low : 1 ≤ size
-  pub high : size ≤ 15
+  pub few : size ≤ 15
+  pub low : last < from
+  pub high : from ≤ length (N .places)
+  pub none : entered ≡ false → 1 ≤ size
+  pub own : entered ≡ true → Level N S size from levels
 
 -- the set has a level of its own, and those before it are as they were
 pub record Entered (N : Network) (S : List ℕ) (size from : ℕ) (levels levels' : List ℕ) : Type 0 where
   pub long : length levels' ≡ 3120
   pub level : Level N S size from levels'
-  pub same : take (size * 195) levels' ≡ take (size * 195) levels
+  pub same : take (readTo size) levels' ≡ take (readTo size) levels

@@ -2,16 +2,18 @@
 use Prim.Native.Nat.{ℕ, _+_, _*_, _-_, _≤_, _<_}
 use mathlib.Core.Path.{_≡_}
 use mathlib.Core.Bool.{true, false}
+use mathlib.Core.Logic.{_⊎_}
 use mathlib.Core.List.{List, [], _∷_, _++_, map}
-use lib.ListN.{length, take}
+use lib.ListN.{length, getD, take}
 use Rattle.model.specs.Lists.{sum, numbers}
 use Rattle.model.specs.Network.{Network}
+use Rattle.model.specs.Outage.{total}
 use Rattle.model.specs.Sets.{placeNumbers, placeAt, allowed, setTotal, saving}
 use Rattle.model.specs.Walk.{Found, visit, extend}
 use Rattle.outage.specs.Held.{HoldsCustomers}
-use Rattle.places.specs.Held.{HoldsEnds}
+use Rattle.places.specs.Held.{HoldsEnds, Level}
 use Rattle.search.specs.Bounds.{Bounds}
-use Rattle.search.specs.Chosen.{Chosen}
+use Rattle.search.specs.Chosen.{Chosen, Tables, readTo}
 use Rattle.search.specs.declared.Progress.{Progress}
 use Rattle.search.specs.declared.Current.{Current}
 
@@ -47,10 +49,6 @@ pub record Counted (N : Network) (p : Progress) : Type 0 where
 abbrev pub HoldsBounds : Network → List ℕ → Type 0
 HoldsBounds N bounds = Bounds (map (λ p. saving N p) (placeNumbers N)) 0 bounds
 
--- How many numbers the levels have up to the one that a set of `size` members is read from.
-abbrev pub readTo : ℕ → ℕ
-readTo size = (size - 1) * 195 + 195
-
 -- the set that the walk stands at
 pub record Standing (N : Network) (relations levels set : List ℕ) (at : Current) : Type 0 where
   pub setLong : length set ≡ 16
@@ -75,3 +73,38 @@ pub record Next (N : Network) (set : List ℕ) (at : Current) (place : ℕ) (nex
   pub total : next .total .0 ≡ setTotal N (take (at .size) set ++ (place ∷ []))
   pub cost : next .cost ≡ sum (map (λ p. placeAt N p .cost) (take (at .size) set ++ (place ∷ [])))
   pub hours : next .hours ≡ sum (map (λ p. placeAt N p .hours) (take (at .size) set ++ (place ∷ [])))
+
+-- a set whose last member is `place` and that may get `more` places: none is left, or none can do better than the best total
+abbrev pub Barren : Network → List ℕ → ℕ → ℕ → ℕ → ℕ → Type 0
+Barren N bounds best total place more = (more ≡ 0) ⊎ ((length (N .places) ≤ place) ⊎ (best + getD bounds (more * 65 + place) 0 ≤ total))
+
+-- the set may get `left` more of the places from `from` on
+pub record Extending (N : Network) (relations ends sums bounds levels set : List ℕ) (at : Current) (from left : ℕ) : Type 0 where
+  pub coded : HoldsEnds N ends
+  pub behind : HoldsCustomers N sums
+  pub table : HoldsBounds N bounds
+  pub standing : Standing N relations levels set at
+  pub long : length levels ≡ 3120
+  pub low : at .last < from
+  pub high : from ≤ length (N .places) + 1
+  pub few : at .size + left ≡ N .head .adds
+
+-- what a walk leaves: what it found, the set as it was, and the levels up to the one that it is read from
+pub record Left (N : Network) (f : Found) (size : ℕ) (p : Progress) (levels levels' set set' best' : List ℕ) : Type 0 where
+  pub found : foundIn p best' ≡ f
+  pub counted : Counted N p
+  pub bestLong : length best' ≡ 16
+  pub setLong : length set' ≡ 16
+  pub setSame : take size set' ≡ take size set
+  pub levelsLong : length levels' ≡ 3120
+  pub levelsSame : take (readTo size) levels' ≡ take (readTo size) levels
+
+-- before the walk
+pub record Starting (N : Network) (relations ends sums bounds levels set best : List ℕ) (whole : ℕ) : Type 0 where
+  pub tables : Tables N relations ends sums
+  pub table : HoldsBounds N bounds
+  pub level : Level N [] 0 1 levels
+  pub long : length levels ≡ 3120
+  pub setLong : length set ≡ 16
+  pub bestLong : length best ≡ 16
+  pub total : whole ≡ total N

@@ -1,6 +1,6 @@
 // The search: a walk over sets of places. For each set on the way a level of a buffer has what is known of the later places.
 ghost use mathlib.Core.Path.{_≡_};
-ghost use mathlib.Core.Bool.{_&&_};
+ghost use mathlib.Core.Bool.{false, _&&_};
 ghost use mathlib.Core.List.{[], _∷_, _++_, map};
 ghost use Prim.Native.Nat.{ℕ, _+_, _*_, _-_, _≤_, _<_};
 ghost use lib.Dec.{leb};
@@ -10,6 +10,7 @@ ghost use Rattle.model.specs.Walk.{insert};
 ghost use Rattle.walks.specs.Largest.{Falls};
 ghost use Rattle.savings.specs.Breakers.{endAt};
 ghost use Rattle.theory.specs.Reading.{Read};
+ghost use Rattle.theory.specs.Best.{Accepted};
 ghost use Rattle.buffer.specs.Buffer.{networkIn};
 ghost use Rattle.buffer.specs.Fits.{PlaceThere};
 ghost use Rattle.tree.specs.Linked.{endCode};
@@ -18,7 +19,7 @@ ghost use Rattle.places.specs.Sets.{nearAt, weightAt, worstAt};
 ghost use Rattle.places.specs.Held.{HoldsEnds, Level};
 ghost use Rattle.search.specs.Bounds.{Small, Savings, Column, Bounds};
 ghost use Rattle.search.specs.Chosen.{Later, Entering, Entered, Tables};
-ghost use Rattle.search.specs.Walking.{foundIn, visited, Counted, Trying, Next};
+ghost use Rattle.search.specs.Walking.{foundIn, visited, extended, Counted, HoldsBounds, Trying, Next, Barren, Extending, Left};
 use amounts::Customers;
 use amounts::Total;
 use amounts::Weight;
@@ -223,7 +224,7 @@ fn worst_of(
     worst
 }
 
-// Writes the level of the set: of each place after its last member.
+// Writes the level of the set, of the places from `from` on, if it has none yet.
 fn enter(
     net: &[u64; 5129],
     relations: &[u64; 4225],
@@ -232,12 +233,17 @@ fn enter(
     set: &[u64; 16],
     size: usize,
     last: usize,
+    from: usize,
+    entered: bool,
 )
-    requires { ⌜ Entering (networkIn (now net)) (now relations) (now ends) (now levels) (take size (now set)) size last ⌝ }
-    ensures { λ r. ⌜ Entered (networkIn (now (net .entry))) (take size (now (set .entry))) size (last + 1) (now (levels .entry)) (now (levels .exit)) ⌝ }
+    requires { ⌜ Entering (networkIn (now net)) (now relations) (now ends) (now levels) (take size (now set)) size last from entered ⌝ }
+    ensures { λ r. ⌜ Entered (networkIn (now (net .entry))) (take size (now (set .entry))) size from (now (levels .entry)) (now (levels .exit)) ⌝ }
 {
+    if entered {
+        return;
+    }
     let at = size * 195;
-    for place in last + 1..buffer::places(net) + 1 {
+    for place in from..buffer::places(net) + 1 {
         let near = near_of(net, relations, ends, levels, set, size, last, place);
         let weight = weight_of(net, relations, levels, set, size, last, place);
         let worst = worst_of(net, relations, levels, set, size, last, place);
@@ -365,4 +371,94 @@ fn with_place(
         cost: cost_with(net, current, place),
         hours: hours_with(net, current, place),
     }
+}
+
+// Whether a set whose last member is `place` is to be extended: it may get `more` places, some are left, and by the bound they
+// may do better than the best.
+fn goes_on(
+    net: &[u64; 5129],
+    bounds: &[u64; 1105],
+    total: Total,
+    place: usize,
+    more: usize,
+    found: Progress,
+) -> bool
+    requires { ⌜ Accepted (networkIn (now net)) × HoldsBounds (networkIn (now net)) (now bounds) × Counted (networkIn (now net)) found × (more ≤ 16) ⌝ }
+    ensures { λ r. ⌜ (r ≡ false → Barren (networkIn (now (net .entry))) (now (bounds .entry)) (found .best .0) (total .0) place more) ⌝ }
+{
+    if more == 0 {
+        return false;
+    }
+    if buffer::places(net) <= place {
+        return false;
+    }
+    total.number() < found.best.number() + bounds[more * 65 + place]
+}
+
+// Extends the current set, which may get `left` more places, by each of the places from `from` on in rising order.
+fn extend(
+    net: &[u64; 5129],
+    relations: &[u64; 4225],
+    ends: &[u64; 65],
+    sums: &[u64; 768],
+    bounds: &[u64; 1105],
+    levels: &mut [u64; 3120],
+    set: &mut [u64; 16],
+    best: &mut [u64; 16],
+    current: Current,
+    from: usize,
+    left: usize,
+    progress: Progress,
+) -> Progress
+    requires { ⌜ Extending (networkIn (now net)) (now relations) (now ends) (now sums) (now bounds) (now levels) (now set) current from left × (length (now best) ≡ 16) × Counted (networkIn (now net)) progress ⌝ }
+    ensures { λ r. ⌜ Left (networkIn (now (net .entry))) (extended (networkIn (now (net .entry))) left (take (current .size) (now (set .entry))) from (foundIn progress (now (best .entry)))) (current .size) r (now (levels .entry)) (now (levels .exit)) (now (set .entry)) (now (set .exit)) (now (best .exit)) ⌝ }
+{
+    let mut found = progress;
+    if left == 0 {
+        return found;
+    }
+    let size = current.size;
+    let mut entered = size == 0;
+    for place in from..buffer::places(net) + 1 {
+        if found.spent {
+            return found;
+        }
+        if found.best.number() + bounds[left * 65 + place - 1] <= current.total.number() {
+            return found;
+        }
+        if may_get(net, relations, levels, set, current, place) {
+            let next = with_place(net, relations, ends, sums, levels, set, current, place);
+            set[size] = place as u64;
+            found = visit(net, set, size + 1, next.total, best, found);
+            if goes_on(net, bounds, next.total, place, left - 1, found) {
+                enter(
+                    net,
+                    relations,
+                    ends,
+                    levels,
+                    set,
+                    size,
+                    current.last,
+                    place,
+                    entered,
+                );
+                entered = true;
+                found = extend(
+                    net,
+                    relations,
+                    ends,
+                    sums,
+                    bounds,
+                    levels,
+                    set,
+                    best,
+                    next,
+                    place + 1,
+                    left - 1,
+                    found,
+                );
+            }
+        }
+    }
+    found
 }

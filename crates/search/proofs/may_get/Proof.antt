@@ -18,8 +18,7 @@ within-means-requires c κs = search needs
 
 returns : tie.Need-returns
 returns c =
-    let m = c .before .within-means in
-    costly (c .before .before .before .before .pre) (c .before .before .before .cost-with .ensures) (c .before .before .hours-with .ensures) (sym (m .ensures) ∙ not-true (m .result) (c .if1 .taken))
+    costly (c .before .before .before .before .pre) (c .before .before .before .cost-with .ensures) (c .before .before .hours-with .ensures) (sym (c .before .within-means .ensures) ∙ not-true (c .before .within-means .result) (c .if1 .taken))
 
 worst-of-requires : tie.Need-worst-of-requires
 worst-of-requires c κs = search needs
@@ -29,10 +28,9 @@ element-copy-out-result c = search needs
 
 returns-2 : tie.Need-returns-2
 returns-2 c =
-    let m = c .before .before .before .within-means in
     let d = c .before .before .before .before .before .before in
     ap (ltb (c .before .worst-of .result)) (sym (series-at (d .args .net .now)))
-    ∙ in-series (d .pre) (c .before .before .before .before .before .cost-with .ensures) (c .before .before .before .before .hours-with .ensures) (sym (m .ensures) ∙ not-false (m .result) (c .before .before .if1 .left)) (c .before .worst-of .ensures)
+    ∙ in-series (d .pre) (c .before .before .before .before .before .cost-with .ensures) (c .before .before .before .before .hours-with .ensures) (sym (c .before .before .before .within-means .ensures) ∙ not-false (c .before .before .before .within-means .result) (c .before .before .if1 .left)) (c .before .worst-of .ensures)
 
 pub may-get-spec : {M : Type 1} → statement M
 may-get-spec =
