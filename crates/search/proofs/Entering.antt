@@ -73,25 +73,28 @@ module _ {N : Network} {relations ends levels₀ S : List ℕ} {size last from :
   }
 
   module _ {place end : ℕ} {levels : List ℕ} (w : Written N S size from levels₀ place end levels) where
-    pub later : place < end → Later N relations levels S size last place
-    later h = record {
+    pub later-place : place < end → Later N relations levels S size last place
+    later-place h = record {
       chosen = chosen-kept (x .chosen) levels (size * 195) (omega (arith, x .none n)) (w .same);
       low = omega (arith, x .low, w .low);
       high = omega (arith, w .all);
     }
 
-    module _ (h : place < end) (a b c : ℕ) (ea : a ≡ endCode (nearAt N S (endAt N place))) (eb : b ≡ weightAt N S (endAt N place)) (ec : c ≡ worstAt N S (endAt N place)) where
+    module _ {start : ℕ} (s : start ≡ (size - 1) * 195 + 195) (h : place < end) (a b c : ℕ) (ea : a ≡ endCode (nearAt N S (endAt N place))) (eb : b ≡ weightAt N S (endAt N place)) (ec : c ≡ worstAt N S (endAt N place)) where
       abbrev i : ℕ
-      i = size * 195 + place
+      i = start + place
 
       abbrev j : ℕ
-      j = size * 195 + 65 + place
+      j = start + 65 + place
 
       abbrev k : ℕ
-      k = size * 195 + 130 + place
+      k = start + 130 + place
 
       abbrev new : List ℕ
       new = set (set (set levels i a) j b) k c
+
+      start-is : start ≡ size * 195
+      start-is = omega (arith, x .none n)
 
       few : place ≤ 64
       few = omega (arith, w .all, x .chosen .accepted .read .placeCount)
@@ -103,13 +106,13 @@ module _ {N : Network} {relations ends levels₀ S : List ℕ} {size last from :
       old q = set3-other levels i j k a b c q
 
       at-i : getD new i 0 ≡ a
-      at-i = getD-set-other (set (set levels i a) j b) k i c 0 (λ z. omega arith) ∙ getD-set-other (set levels i a) j i b 0 (λ z. omega arith) ∙ getD-set-same levels i a 0 (omega (arith, w .long, few, x .few))
+      at-i = getD-set-other (set (set levels i a) j b) k i c 0 (λ z. omega (arith, start-is)) ∙ getD-set-other (set levels i a) j i b 0 (λ z. omega (arith, start-is)) ∙ getD-set-same levels i a 0 (omega (arith, w .long, few, x .few, start-is))
 
       at-j : getD new j 0 ≡ b
-      at-j = getD-set-other (set (set levels i a) j b) k j c 0 (λ z. omega arith) ∙ getD-set-same (set levels i a) j b 0 (omega (arith, length-set levels i a, w .long, few, x .few))
+      at-j = getD-set-other (set (set levels i a) j b) k j c 0 (λ z. omega (arith, start-is)) ∙ getD-set-same (set levels i a) j b 0 (omega (arith, length-set levels i a, w .long, few, x .few, start-is))
 
       at-k : getD new k 0 ≡ c
-      at-k = getD-set-same (set (set levels i a) j b) k c 0 (omega (arith, length-set (set levels i a) j b, length-set levels i a, w .long, few, x .few))
+      at-k = getD-set-same (set (set levels i a) j b) k c 0 (omega (arith, length-set (set levels i a) j b, length-set levels i a, w .long, few, x .few, start-is))
 
       pub written-more : Written N S size from levels₀ (place + 1) end new
       written-more = record {
@@ -118,21 +121,21 @@ module _ {N : Network} {relations ends levels₀ S : List ℕ} {size last from :
         all = w .all;
         long = new-long;
         same =
-            take-set-le (size * 195) (set (set levels i a) j b) k c (omega arith)
-            ∙ take-set-le (size * 195) (set levels i a) j b (omega arith)
-            ∙ take-set-le (size * 195) levels i a (omega arith)
+            take-set-le (size * 195) (set (set levels i a) j b) k c (omega (arith, start-is))
+            ∙ take-set-le (size * 195) (set levels i a) j b (omega (arith, start-is))
+            ∙ take-set-le (size * 195) levels i a (omega (arith, start-is))
             ∙ w .same;
         near = λ p l m. ⊎-elim
-            (λ e. ap (λ q. getD new (size * 195 + q) 0) e ∙ at-i ∙ ea ∙ ap (λ q. endCode (nearAt N S (endAt N q))) (sym e))
-            (λ n. old (size * 195 + p) (λ z. omega arith) (λ z. omega (arith, few)) (λ z. omega (arith, few)) ∙ w .near p l n)
+            (λ e. (λ z. getD new (sym start-is z + e z) 0) ∙ at-i ∙ ea ∙ ap (λ q. endCode (nearAt N S (endAt N q))) (sym e))
+            (λ n. old (size * 195 + p) (λ z. omega (arith, start-is)) (λ z. omega (arith, start-is, few)) (λ z. omega (arith, start-is, few)) ∙ w .near p l n)
             (eq-or-lt-of-le {n = p} {m = place} (omega arith));
         weight = λ p l m. ⊎-elim
-            (λ e. ap (λ q. getD new (size * 195 + 65 + q) 0) e ∙ at-j ∙ eb ∙ ap (λ q. weightAt N S (endAt N q)) (sym e))
-            (λ n. old (size * 195 + 65 + p) (λ z. omega (arith, few)) (λ z. omega arith) (λ z. omega (arith, few)) ∙ w .weight p l n)
+            (λ e. (λ z. getD new (sym start-is z + 65 + e z) 0) ∙ at-j ∙ eb ∙ ap (λ q. weightAt N S (endAt N q)) (sym e))
+            (λ n. old (size * 195 + 65 + p) (λ z. omega (arith, start-is, few)) (λ z. omega (arith, start-is)) (λ z. omega (arith, start-is, few)) ∙ w .weight p l n)
             (eq-or-lt-of-le {n = p} {m = place} (omega arith));
         worst = λ p l m. ⊎-elim
-            (λ e. ap (λ q. getD new (size * 195 + 130 + q) 0) e ∙ at-k ∙ ec ∙ ap (λ q. worstAt N S (endAt N q)) (sym e))
-            (λ n. old (size * 195 + 130 + p) (λ z. omega (arith, few)) (λ z. omega (arith, few)) (λ z. omega arith) ∙ w .worst p l n)
+            (λ e. (λ z. getD new (sym start-is z + 130 + e z) 0) ∙ at-k ∙ ec ∙ ap (λ q. worstAt N S (endAt N q)) (sym e))
+            (λ n. old (size * 195 + 130 + p) (λ z. omega (arith, start-is, few)) (λ z. omega (arith, start-is, few)) (λ z. omega (arith, start-is)) ∙ w .worst p l n)
             (eq-or-lt-of-le {n = p} {m = place} (omega arith));
       }
 

@@ -12,3 +12,4 @@ pub mod Trying
 pub mod Saving
 pub mod Bounding
 pub mod Extending
+pub mod Starting

@@ -6,7 +6,7 @@ ghost use Prim.Native.Nat.{ℕ, _+_, _*_, _-_, _≤_, _<_};
 ghost use lib.Dec.{leb};
 ghost use lib.ListN.{length, getD, take};
 ghost use Rattle.model.specs.Sets.{placeNumbers, placeAt, allowed, setTotal, saving};
-ghost use Rattle.model.specs.Walk.{insert};
+ghost use Rattle.model.specs.Walk.{insert, search};
 ghost use Rattle.walks.specs.Largest.{Falls};
 ghost use Rattle.savings.specs.Breakers.{endAt};
 ghost use Rattle.theory.specs.Reading.{Read};
@@ -19,7 +19,7 @@ ghost use Rattle.places.specs.Sets.{nearAt, weightAt, worstAt};
 ghost use Rattle.places.specs.Held.{HoldsEnds, Level};
 ghost use Rattle.search.specs.Bounds.{Small, Savings, Column, Bounds};
 ghost use Rattle.search.specs.Chosen.{Later, Entering, Entered, Tables};
-ghost use Rattle.search.specs.Walking.{foundIn, visited, extended, Counted, HoldsBounds, Trying, Next, Barren, Extending, Left};
+ghost use Rattle.search.specs.Walking.{foundIn, visited, extended, Counted, HoldsBounds, Trying, Next, Barren, Extending, Left, Starting};
 use amounts::Customers;
 use amounts::Total;
 use amounts::Weight;
@@ -242,14 +242,14 @@ fn enter(
     if entered {
         return;
     }
-    let at = size * 195;
-    for place in from..buffer::places(net) + 1 {
-        let near = near_of(net, relations, ends, levels, set, size, last, place);
-        let weight = weight_of(net, relations, levels, set, size, last, place);
-        let worst = worst_of(net, relations, levels, set, size, last, place);
-        levels[at + place] = near;
-        levels[at + 65 + place] = weight;
-        levels[at + 130 + place] = worst;
+    let at = level_before(size) + 195;
+    for later in from..buffer::places(net) + 1 {
+        let near = near_of(net, relations, ends, levels, set, size, last, later);
+        let weight = weight_of(net, relations, levels, set, size, last, later);
+        let worst = worst_of(net, relations, levels, set, size, last, later);
+        levels[at + later] = near;
+        levels[at + 65 + later] = weight;
+        levels[at + 130 + later] = worst;
     }
 }
 
@@ -326,7 +326,7 @@ fn may_get(
     if !within_means(net, cost, hours) {
         return false;
     }
-    worst_of(
+    let worst = worst_of(
         net,
         relations,
         levels,
@@ -334,8 +334,8 @@ fn may_get(
         current.size,
         current.last,
         place,
-    )
-        < net[3]
+    );
+    worst < net[3]
 }
 
 // The set with one more place.
@@ -461,4 +461,48 @@ fn extend(
         }
     }
     found
+}
+
+// The search: the empty set, whose total is the file's, is visited first, then it is extended by at most `adds` of the places.
+pub fn walk(
+    net: &[u64; 5129],
+    relations: &[u64; 4225],
+    ends: &[u64; 65],
+    sums: &[u64; 768],
+    bounds: &[u64; 1105],
+    levels: &mut [u64; 3120],
+    set: &mut [u64; 16],
+    best: &mut [u64; 16],
+    total: Total,
+) -> Progress
+    requires { ⌜ Starting (networkIn (now net)) (now relations) (now ends) (now sums) (now bounds) (now levels) (now set) (now best) (total .0) ⌝ }
+    ensures { λ r. ⌜ (foundIn r (now (best .exit)) ≡ search (networkIn (now (net .entry)))) × (length (now (best .exit)) ≡ 16) × (r .count ≤ 16) ⌝ }
+{
+    let start = Progress {
+        best: total,
+        count: 0,
+        visits: 0,
+        spent: false,
+    };
+    let first = visit(net, set, 0, total, best, start);
+    extend(
+        net,
+        relations,
+        ends,
+        sums,
+        bounds,
+        levels,
+        set,
+        best,
+        Current {
+            size: 0,
+            last: 0,
+            total,
+            cost: 0,
+            hours: 0,
+        },
+        1,
+        net[4] as usize,
+        first,
+    )
 }

@@ -1,0 +1,62 @@
+-- The start of the walk.
+use Prim.Native.Nat.{ℕ, _+_, _-_}
+use mathlib.Core.Path.{_≡_, refl, sym, ap, _∙_}
+use mathlib.Core.Bool.{false}
+use mathlib.Core.List.{List, []}
+use native.Mathlib.Omega.{arith}
+use lib.ListN.{length, getD}
+use Rattle.model.specs.Lists.{sum, numbers}
+use Rattle.model.specs.Network.{Network}
+use Rattle.model.specs.Sets.{placeNumbers, withBreakers, allowed, setTotal, saving}
+use Rattle.model.specs.Walk.{Found, start, extend, walk, search}
+use Rattle.amounts.specs.declared.Total.{Total}
+use Rattle.theory.specs.Sizes.{read-sized, setTotal-size}
+use Rattle.search.specs.Walking.{foundIn, visited, extended, Counted, Extending, Starting}
+use Rattle.search.specs.declared.Progress.{Progress}
+use Rattle.search.proofs.Saving.{chosen-none}
+
+module _ {N : Network} {relations ends sums bounds levels set₀ best : List ℕ} (t : Total) (x : Starting N relations ends sums bounds levels set₀ best (t .0)) where
+  abbrev first : Progress
+  first = record { best = t; count = 0; visits = 0; spent = false }
+
+  pub total-none : t .0 ≡ setTotal N []
+  unfolding setTotal withBreakers
+  total-none = x .total
+
+  pub counted-none : Counted N first
+  counted-none = record {
+    best = omega (arith, total-none, setTotal-size N (read-sized N (x .tables .accepted .read)) []);
+    count = omega arith;
+    visits = omega arith;
+    limit = x .tables .accepted .read .head .visits .high;
+  }
+
+  module _ (adds : ℕ) (e : N .head .adds ≡ adds) where
+    pub extending-none : Extending N relations ends sums bounds levels set₀ (record { size = 0; last = 0; total = t; cost = 0; hours = 0 }) 1 adds
+    unfolding sum
+    extending-none = record {
+      coded = x .tables .coded;
+      behind = x .tables .behind;
+      table = x .table;
+      standing = record {
+        setLong = x .setLong;
+        chosen = chosen-none N relations levels (x .tables .accepted) (x .tables .related) (x .level);
+        total = total-none;
+        cost = refl;
+        hours = refl;
+        affordable = omega arith;
+        timely = omega arith;
+      };
+      long = x .long;
+      low = omega arith;
+      high = omega arith;
+      few = omega (arith, e);
+    }
+
+    -- what is found from there is what the search finds
+    pub search-is : (f : Found) → f ≡ visited N [] (foundIn first best) → extended N adds [] 1 f ≡ search N
+    unfolding search walk start placeNumbers
+    search-is f v =
+        let n : length (N .places) + 1 - 1 ≡ length (N .places) = omega arith in
+        (λ i. extended N (sym e i) [] 1 (v i))
+        ∙ (λ i. extend (N .head .visits) (λ T. setTotal N T) (λ T. allowed N T) (λ p. saving N p) (N .head .adds) [] (numbers 1 (n i)) (visited N [] (record { members = []; best = total-none i; visits = 0; spent = false })))
