@@ -1,6 +1,6 @@
 // The calls of the engine.
 ghost use mathlib.Core.Path.{_≡_};
-ghost use mathlib.Core.List.{List, _++_};
+ghost use mathlib.Core.List.{List, [], _++_};
 ghost use Prim.Native.Nat.{ℕ, _≤_};
 ghost use lib.ListN.{length, take, drop};
 ghost use Rattle.model.specs.Answer.{Answer, given};
@@ -12,11 +12,16 @@ ghost use Rattle.model.specs.Rules.{radial, accepted};
 ghost use Rattle.model.specs.Calls.{checked, checkSays, impactAnswered, impactSays, totalled, totalSays, searchAnswered, searchLeaves, searchSays, reportAnswered, reportLeaves, reportSays};
 ghost use Rattle.model.specs.Demand.{Demand3};
 ghost use Rattle.theory.specs.Best.{Accepted};
-ghost use Rattle.outage.specs.Held.{HoldsImpacts};
+ghost use Rattle.outage.specs.Held.{HoldsCustomers, HoldsImpacts};
+ghost use Rattle.model.specs.Outage.{total as totalOf};
 ghost use Rattle.model.specs.Walk.{search};
 ghost use Rattle.model.specs.Text.{reportText};
-ghost use Rattle.search.specs.Walking.{foundIn, HoldsBounds, Alone};
+ghost use Rattle.search.specs.Chosen.{Tables};
+ghost use Rattle.search.specs.Walking.{foundIn, HoldsBounds};
+ghost use Rattle.places.specs.Held.{Level};
+ghost use Rattle.tree.specs.Outwards.{Outwards};
 ghost use Rattle.engine.specs.Loading.{forest, before, loaded, Prepared, fileFound, foundBy, AtMost16};
+use amounts::Total;
 use model::CheckAnswer;
 use model::ImpactAnswer;
 use model::ReportAnswer;
@@ -227,30 +232,22 @@ pub fn total(file: &[u8]) -> TotalAnswer
     }
 }
 
-// The table of the bounds of an accepted network, whose own copy is `work`.
+// The table of the bounds of an accepted network.
 fn bound_table(
     net: &[u64; 5129],
-    work: &mut [u64; 5129],
-    near: &[u64; 768],
-    feed: &[u64; 768],
-    order: &[u64; 768],
+    relations: &[u64; 4225],
+    ends: &[u64; 65],
     sums: &[u64; 768],
-    impacts: &mut [u64; 768],
+    levels: &[u64; 3120],
     bounds: &mut [u64; 1105],
 )
-    requires { ⌜ Alone (now net) (now work) (now near) (now feed) (now order) (now sums) × (length (now bounds) ≡ 1105) ⌝ }
-    ensures { λ r. ⌜ HoldsBounds (networkIn (now (net .entry))) (now (bounds .exit)) × (now (work .exit) ≡ now (work .entry)) ⌝ }
+    requires { ⌜ Tables (networkIn (now net)) (now relations) (now ends) (now sums) × Level (networkIn (now net)) [] 0 1 (now levels) × (length (now bounds) ≡ 1105) ⌝ }
+    ensures { λ r. ⌜ HoldsBounds (networkIn (now (net .entry))) (now (bounds .exit)) ⌝ }
 {
     let mut savings = [0u64; 64];
-    search::savings_of(net, work, near, feed, order, sums, impacts, &mut savings);
+    search::savings_of(net, relations, ends, sums, levels, &mut savings);
     search::bound_table(&savings, buffer::places(net), bounds);
 }
-
-// The length of a network's buffer.
-fn full_length(net: &[u64])
-    requires { ⌜ length (now net) ≡ 5129 ⌝ }
-    ensures { λ r. ⌜ length (now (net .entry)) ≡ 5129 ⌝ }
-{}
 
 // Writes the first `count` numbers of a list at the start of a buffer.
 fn put_members(list: &[u64; 16], count: usize, members: &mut [u64])
@@ -262,8 +259,51 @@ fn put_members(list: &[u64; 16], count: usize, members: &mut [u64])
     }
 }
 
-// The search of an accepted network: what it found, with the best set's places at the start of `best`.
+// The search of an accepted network, with the customers behind each line and its total: what it found, with the best set's places
+// at the start of `best`.
 fn walk(
+    net: &[u64; 5129],
+    near: &[u64; 768],
+    feed: &[u64; 768],
+    order: &[u64; 768],
+    sums: &[u64; 768],
+    total: Total,
+    best: &mut [u64; 16],
+) -> Progress
+    requires { ⌜ Accepted (networkIn (now net)) × Outwards (networkIn (now net)) (now near) (now feed) (now order) × HoldsCustomers (networkIn (now net)) (now sums) × (total .0 ≡ totalOf (networkIn (now net))) ⌝ }
+    ensures { λ r. ⌜ (foundIn r (now (best .exit)) ≡ search (networkIn (now (net .entry)))) × (length (now (best .exit)) ≡ 16) × (r .count ≤ 16) ⌝ }
+{
+    let mut relations = relations_space();
+    let mut ends = [0u64; 65];
+    let mut levels = levels_space();
+    places::prepare(
+        net,
+        near,
+        feed,
+        order,
+        &mut relations,
+        &mut ends,
+        &mut levels,
+    );
+    let mut bounds = [0u64; 1105];
+    bound_table(net, &relations, &ends, sums, &levels, &mut bounds);
+    let mut set = [0u64; 16];
+    *best = [0u64; 16];
+    search::walk(
+        net,
+        &relations,
+        &ends,
+        sums,
+        &bounds,
+        &mut levels,
+        &mut set,
+        best,
+        total,
+    )
+}
+
+// The search of an accepted network, from what is prepared of it.
+fn search_network(
     net: &[u64; 5129],
     heads: &[u64; 512],
     nexts: &[u64; 1536],
@@ -277,34 +317,10 @@ fn walk(
 {
     let mut sums = lines_space();
     outage::customers_behind(net, heads, nexts, &mut sums);
-    full_length(net);
-    let mut work = *net;
     let mut impacts = lines_space();
-    let mut bounds = [0u64; 1105];
-    bound_table(
-        net,
-        &mut work,
-        near,
-        feed,
-        order,
-        &sums,
-        &mut impacts,
-        &mut bounds,
-    );
-    let mut set = [0u64; 16];
-    *best = [0u64; 16];
-    search::walk(
-        net,
-        &mut work,
-        near,
-        feed,
-        order,
-        &sums,
-        &mut impacts,
-        &bounds,
-        &mut set,
-        best,
-    )
+    outage::impacts(net, near, feed, order, &sums, &mut impacts);
+    let total = outage::total_of(net, &impacts);
+    walk(net, near, feed, order, &sums, total, best)
 }
 
 // The answer to what a search found.
@@ -349,7 +365,7 @@ fn load_search(file: &[u8], best: &mut [u64; 16]) -> SearchAnswer
     ) {
         CheckAnswer::Refused { number, record } => SearchAnswer::Refused { number, record },
         CheckAnswer::Accepted => {
-            let found = walk(&net, &heads, &nexts, &near, &feed, &order, best);
+            let found = search_network(&net, &heads, &nexts, &near, &feed, &order, best);
             found_answer(found)
         }
     }
@@ -390,15 +406,17 @@ fn report_network(
     requires { ⌜ Accepted (networkIn (now net)) × Prepared (networkIn (now net)) (now heads) (now nexts) (now near) (now feed) (now order) × (32768 ≤ length (now text)) ⌝ }
     ensures { λ r. ⌜ (r ≡ length (reportText (networkIn (now (net .entry))))) × (now (text .exit) ≡ reportText (networkIn (now (net .entry))) ++ drop (length (reportText (networkIn (now (net .entry))))) (now (text .entry))) ⌝ }
 {
-    let mut customers = lines_space();
-    impacts(net, heads, nexts, near, feed, order, &mut customers);
-    let total = outage::total_of(net, &customers).number();
+    let mut sums = lines_space();
+    outage::customers_behind(net, heads, nexts, &mut sums);
+    let mut impacts = lines_space();
+    outage::impacts(net, near, feed, order, &sums, &mut impacts);
+    let total = outage::total_of(net, &impacts);
     let mut best = [0u64; 16];
-    let found = walk(net, heads, nexts, near, feed, order, &mut best);
+    let found = walk(net, near, feed, order, &sums, total, &mut best);
     report::write_report(
         net,
-        &customers,
-        total,
+        &impacts,
+        total.number(),
         &best,
         found.count,
         found.best.number(),
@@ -450,6 +468,16 @@ fn net_space() -> [u64; 5129] {
 // Room for a number of each end.
 fn nexts_space() -> [u64; 1536] {
     [0; 1536]
+}
+
+// Room for the relations of the places.
+fn relations_space() -> [u64; 4225] {
+    [0; 4225]
+}
+
+// Room for the levels of a walk.
+fn levels_space() -> [u64; 3120] {
+    [0; 3120]
 }
 
 // Room for a number of each line.

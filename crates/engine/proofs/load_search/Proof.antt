@@ -11,7 +11,7 @@ use Rattle.engine.proofs.lines_space.Reads as lines-space-reads
 use Rattle.engine.proofs.load.Reads as load-reads
 use Rattle.engine.proofs.net_space.Reads as net-space-reads
 use Rattle.engine.proofs.nexts_space.Reads as nexts-space-reads
-use Rattle.engine.proofs.walk.Reads as walk-reads
+use Rattle.engine.proofs.search_network.Reads as search-network-reads
 
 net-space-requires : tie.Need-net-space-requires
 net-space-requires c κs = search needs
@@ -40,8 +40,8 @@ enum-known-number c = search needs
 enum-told : tie.Need-enum-told
 enum-told c = search needs
 
-walk-requires : tie.Need-walk-requires
-walk-requires c κs =
+search-network-requires : tie.Need-search-network-requires
+search-network-requires c κs =
     let d = c .before .before .before .before .before .before .before .before .before in
     let e = c .before .before .before .before .before .before .before .enum-told .given .1 in
     (accepted-holds (d .before .before .before .before .before .before .before .before .before .before .before .before .before .before .args .file .now) (d .load .last .1 .0) (d .load .result) (d .load .ensures .0) e, d .load .ensures .1 e)
@@ -58,7 +58,7 @@ returns c =
 returns-2 : tie.Need-returns-2
 returns-2 c =
     let d = c .before .before .before .before .before .before .before .before .before .before .before in
-    let w = c .before .walk in
+    let w = c .before .search-network in
     let a = c .found-answer in
     let best = w .last .1 .1 .1 .1 .1 .1 .0 in
     (found-given (d .before .before .before .before .before .before .before .before .before .before .before .before .before .before .args .file .now) (d .load .last .1 .0) (d .load .result) (d .load .ensures .0) (a .result) (w .result) best (c .before .before .before .before .before .before .before .before .before .enum-told .given .1) (a .ensures .0 best) (w .ensures .0), a .ensures .1, w .ensures .1)
@@ -76,7 +76,7 @@ load-search-spec =
     load-requires
     enum-known-number
     enum-told
-    walk-requires
+    search-network-requires
     found-answer-requires
     returns
     returns-2)

@@ -3,17 +3,15 @@ use borrow.Author.Needs.{needs}
 use Rattle.engine.proofs.Found.{found-is}
 use Rattle.engine.proofs.report_network.Statement.{statement}
 use Rattle.engine.proofs.report_network.Tie as tie
-use Rattle.engine.proofs.report_network.Reads as reads
-use Rattle.engine.proofs.report_network.Lts as lts
-use Rattle.amounts.proofs.Total.number.Reads as number-reads
-use Rattle.engine.proofs.impacts.Reads as impacts-reads
-use Rattle.engine.proofs.lines_space.Reads as lines-space-reads
-use Rattle.engine.proofs.walk.Reads as walk-reads
-use Rattle.outage.proofs.total_of.Reads as total-of-reads
-use Rattle.report.proofs.write_report.Reads as write-report-reads
 
 lines-space-requires : tie.Need-lines-space-requires
 lines-space-requires c κs = search needs
+
+customers-behind-requires : tie.Need-customers-behind-requires
+customers-behind-requires c κs = search needs
+
+lines-space-requires-2 : tie.Need-lines-space-requires-2
+lines-space-requires-2 c κs = search needs
 
 impacts-requires : tie.Need-impacts-requires
 impacts-requires c κs = search needs
@@ -21,24 +19,24 @@ impacts-requires c κs = search needs
 total-of-requires : tie.Need-total-of-requires
 total-of-requires c κs = search needs
 
-number-requires : tie.Need-number-requires
-number-requires c κs = search needs
-
 walk-requires : tie.Need-walk-requires
 walk-requires c κs = search needs
+
+number-requires : tie.Need-number-requires
+number-requires c κs = search needs
 
 number-requires-2 : tie.Need-number-requires-2
 number-requires-2 c κs = search needs
 
 write-report-requires : tie.Need-write-report-requires
 write-report-requires c κs =
-    let w = c .before .before .before .before .walk in
-    let t = c .before .before .before .before .before .before .before in
-    let a = t .before .before .before .before .before .before in (
+    let w = c .before .before .before .before .before .walk in
+    let t = c .before .before .before .before .before .before .before .before .total-of in
+    let a = c .before .before .before .before .before .before .before .before .before .before .before .before .before .before .before .before .before .before in (
       record {
         accepted = a .pre .0;
-        holds = t .before .before .impacts .ensures;
-        isTotal = c .before .before .before .before .before .before .number .ensures ∙ t .total-of .ensures;
+        holds = c .before .before .before .before .before .before .before .before .before .before .impacts2 .ensures;
+        isTotal = c .before .before .before .number .ensures ∙ t .ensures;
         few = w .ensures .2;
         found = found-is (w .result) _ (c .before .number2 .ensures) ∙ w .ensures .0;
       },
@@ -56,10 +54,12 @@ report-network-spec =
     tie.close
     (tie.spec
     lines-space-requires
+    customers-behind-requires
+    lines-space-requires-2
     impacts-requires
     total-of-requires
-    number-requires
     walk-requires
+    number-requires
     number-requires-2
     write-report-requires
     same-length
