@@ -10,14 +10,13 @@ use native.Mathlib.Omega.{arith}
 use lib.ListN.{length, length-set, getD, set, take}
 use lib.Seq.{take-suc-set, take-set-le, take-take}
 use Rattle.model.specs.Network.{Network}
-use Rattle.model.specs.Rules.{seriesBroken}
 use Rattle.model.specs.Sets.{withBreakers, allowed, setTotal}
 use Rattle.model.specs.Walk.{Found}
 use Rattle.walks.specs.Runs.{on-true, on-false}
 use Rattle.theory.specs.Series.{series-rule, allowed-means}
 use Rattle.places.specs.Held.{Level}
 use Rattle.search.specs.Chosen.{Before, Chosen, readTo, Entering, Entered}
-use Rattle.search.specs.Walking.{foundIn, visited, extended, tried, Counted, Standing, Trying, Next, Barren, Extending, Left}
+use Rattle.search.specs.Walking.{foundIn, visited, extended, tried, Counted, Trying, Next, Barren, Extending, Left}
 use Rattle.search.specs.declared.Progress.{Progress}
 use Rattle.search.specs.declared.Current.{Current}
 use Rattle.search.proofs.OneMore.{before-later}

@@ -1,8 +1,8 @@
 -- What the buffers say of a place after the last member of the chosen set.
-use Prim.Native.Nat.{ℕ, _+_, _*_, _-_, _≤_, _<_, max}
+use Prim.Native.Nat.{ℕ, _+_, _*_, _-_, _≤_, max}
 use mathlib.Core.Path.{_≡_, sym, ap, _∙_}
 use mathlib.Core.Logic.{⊎-elim}
-use mathlib.Core.List.{List, [], _∷_, _++_}
+use mathlib.Core.List.{List}
 use native.Mathlib.Omega.{arith}
 use lib.ListN.{length, getD}
 use Rattle.model.specs.Network.{Network}
@@ -17,7 +17,7 @@ use Rattle.places.specs.Ways.{has}
 use Rattle.places.specs.Worst.{most-less}
 use Rattle.places.specs.Sets.{nearAt, weightAt, worstAt, series-set}
 use Rattle.places.specs.Held.{relation, HoldsEnds}
-use Rattle.search.specs.Chosen.{Before, Chosen, Later}
+use Rattle.search.specs.Chosen.{Chosen, Later}
 use Rattle.search.proofs.Nearby.{before-valid}
 use Rattle.search.proofs.OneMore.{near-new, near-old, weight-less, weight-same, worst-behind, worst-ahead, worst-apart}
 

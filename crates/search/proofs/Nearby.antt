@@ -1,5 +1,5 @@
 -- The breaker near a place of an accepted file: it is a closed end, told from others by its code, and no fewer customers are behind it.
-use Prim.Native.Nat.{ℕ, _+_, _≤_, _<_}
+use Prim.Native.Nat.{ℕ, _+_, _≤_}
 use mathlib.Core.Path.{_≡_, refl, sym, ap, _∙_, subst}
 use mathlib.Core.Bool.{Bool, true, false, _||_, true≢false}
 use mathlib.Core.Logic.{⊎-elim}

@@ -1,10 +1,10 @@
 -- The start of the walk.
 use Prim.Native.Nat.{ℕ, _+_, _-_}
-use mathlib.Core.Path.{_≡_, refl, sym, ap, _∙_}
+use mathlib.Core.Path.{_≡_, refl, sym, _∙_}
 use mathlib.Core.Bool.{false}
 use mathlib.Core.List.{List, []}
 use native.Mathlib.Omega.{arith}
-use lib.ListN.{length, getD}
+use lib.ListN.{length}
 use Rattle.model.specs.Lists.{sum, numbers}
 use Rattle.model.specs.Network.{Network}
 use Rattle.model.specs.Sets.{placeNumbers, withBreakers, allowed, setTotal, saving}

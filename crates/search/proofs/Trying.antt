@@ -17,9 +17,6 @@ use Rattle.savings.specs.Breakers.{endAt}
 use Rattle.theory.specs.Reading.{Read, PlaceFits}
 use Rattle.theory.specs.Radial.{numbered-in}
 use Rattle.places.specs.Sets.{worstAt, set-series}
-use Rattle.buffer.specs.Buffer.{networkIn}
-use Rattle.buffer.specs.Fits.{PlaceThere}
-use Rattle.outage.proofs.Calls.{read-fits}
 use Rattle.search.specs.Chosen.{Later}
 use Rattle.search.specs.Walking.{Trying}
 use Rattle.search.specs.declared.Current.{Current}
@@ -35,9 +32,6 @@ one-more : (f : ℕ → ℕ) (S : List ℕ) (q : ℕ) → sum (map f (S ++ (q �
 unfolding sum
 one-more f S q = omega (arith, sum-append f S (q ∷ []))
 
-pub place-there : (net : List ℕ) → Read (networkIn net) → (p : ℕ) → 1 ≤ p → p ≤ length (networkIn net .places) → PlaceThere net p
-place-there net d p l h = record { fits = read-fits (networkIn net) d; low = l; high = h }
-
 module _ {N : Network} {relations levels set : List ℕ} {at : Current} {q : ℕ} (x : Trying N relations levels set at q) where
   abbrev S : List ℕ
   S = take (at .size) set
@@ -45,13 +39,10 @@ module _ {N : Network} {relations levels set : List ℕ} {at : Current} {q : ℕ
   abbrev T : List ℕ
   T = S ++ (q ∷ [])
 
-  pub read : Read N
+  read : Read N
   read = x .standing .chosen .accepted .read
 
-  pub low : 1 ≤ q
-  low = omega (arith, x .low)
-
-  pub later : Later N relations levels S (at .size) (at .last) q
+  later : Later N relations levels S (at .size) (at .last) q
   later = record { chosen = x .standing .chosen; low = x .low; high = x .high }
 
   pub cost-with : {cost : ℕ} → cost ≡ at .cost + placeAt N q .cost → cost ≡ sum (map (λ p. placeAt N p .cost) T)

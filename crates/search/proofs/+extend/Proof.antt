@@ -1,15 +1,13 @@
-use Prim.Native.Nat.{_+_, _*_, _-_}
 use mathlib.Core.Path.{sym, ap, _∙_}
 use mathlib.Core.Logic.{⊎-elim}
 use native.Mathlib.Omega.{arith}
 use borrow.Author.Tests.{eqb-true, eq-eqb}
-use Rattle.model.specs.Walk.{Found}
 use Rattle.model.specs.Sets.{setTotal}
 use Rattle.buffer.specs.Buffer.{networkIn}
 use Rattle.search.specs.Walking.{foundIn}
 use Rattle.search.proofs.Bounding.{bound-size}
 use Rattle.search.proofs.Extending.{few, places-few, Going, going-first, left-zero, low, stopped-last, stopped-spent, stopped-bound, trying, room, set⁺-long, set⁺-is, on-barred, on-barren, entering, extending, on-extended}
-use Prim.Native.Nat.{ℕ, _<_}
+use Prim.Native.Nat.{ℕ, _+_, _-_, _<_}
 use borrow.Fn.Kinds.{In}
 use borrow.Fn.PlainCycle.{Measures, is, falls, and}
 use Rattle.search.proofs.extend.Reads as extend

@@ -1,5 +1,5 @@
 use Prim.Native.Nat.{_+_, _*_, _-_}
-use mathlib.Core.Path.{ap, _∙_}
+use mathlib.Core.Path.{ap}
 use mathlib.Core.Logic.{inl, inr}
 use native.Mathlib.Omega.{arith}
 use lib.ListN.{getD}
