@@ -1,9 +1,10 @@
 #!/usr/bin/env python3
 """Times the program `breakers` beside the second implementation (tests/second) and, where it is at hand, a peer in C.
 
-bench.py [--visits N] [--peer PROGRAM]: each program reads the same files from standard input and prints the same report; all times
-are of whole runs, the fastest of several, taken in turn. A visit's time is the difference between a run with N visits (default
-1,000,000) and one with a single visit, divided by the visits between. Ratios are those of `breakers` to the others."""
+bench.py [--visits N] [--peer PROGRAM]: each program reads the same files from standard input and prints the same report. Times are
+processor times of whole runs, the least of several, taken in turn, less that of a program that does nothing. A visit's time is
+the difference between a run with N visits (default 1,000,000) and one with a single visit, divided by the visits between. Ratios
+are those of `breakers` to the others."""
 import argparse
 import fcntl
 import os
@@ -15,26 +16,31 @@ import time
 import networks
 
 F_SETPIPE_SZ = 1031
+NOTHING = "true"
 FEWEST = 20_000  # visits that a visit's time can be taken from
 TOP = os.path.join(os.path.dirname(os.path.abspath(__file__)), "..")
 
 
 def run(program, data):
-    """Seconds and output of one run."""
+    """Seconds of processor time and output of one run."""
     with tempfile.TemporaryFile() as file, tempfile.TemporaryFile() as out:
         file.write(data)
         file.seek(0)
-        begin = time.perf_counter()
-        subprocess.run(program, stdin=file, stdout=out, check=True)
-        seconds = time.perf_counter() - begin
+        child = subprocess.Popen(program, stdin=file, stdout=out)
+        _, status, usage = os.wait4(child.pid, 0)
+        child.returncode = status
+        if status != 0:
+            sys.exit(f"bench: {program[0]} failed")
         out.seek(0)
-        return seconds, out.read()
+        return usage.ru_utime + usage.ru_stime, out.read()
 
 
 def fastest(programs, data, times):
-    """For each program its fastest run in seconds, and what all print, which must be the same."""
-    best = {name: float("inf") for name in programs}
+    """For each program its fastest run in seconds, less that of a program that does nothing; and what all print, which must be the
+    same."""
+    best = {name: float("inf") for name in [*programs, NOTHING]}
     for _ in range(times):
+        best[NOTHING] = min(best[NOTHING], run([NOTHING], data)[0])
         texts = set()
         for name, program in programs.items():
             seconds, text = run(program, data)
@@ -42,7 +48,7 @@ def fastest(programs, data, times):
             best[name] = min(best[name], seconds)
         if len(texts) != 1:
             sys.exit("bench: the programs print different reports")
-    return best, texts.pop()
+    return {name: max(best[name] - best[NOTHING], 1e-6) for name in programs}, texts.pop()
 
 
 def peak_memory(program, data):
@@ -50,12 +56,16 @@ def peak_memory(program, data):
     with tempfile.TemporaryFile() as file:
         file.write(data)
         file.seek(0)
-        child = subprocess.Popen(program, stdin=file, stdout=subprocess.PIPE)
-        fcntl.fcntl(child.stdout, F_SETPIPE_SZ, 4096)
+        end, start = os.pipe()
+        fcntl.fcntl(start, F_SETPIPE_SZ, 4096)
+        child = subprocess.Popen(program, stdin=file, stdout=start)
+        os.close(start)
         time.sleep(0.5)
         with open(f"/proc/{child.pid}/status") as status:
             peak = next(line for line in status if line.startswith("VmHWM:"))
-        child.communicate()
+        with open(end, "rb") as rest:
+            rest.read()
+        child.wait()
         return int(peak.split()[1])
 
 
@@ -96,22 +106,26 @@ def main():
     }
     if options.peer:
         programs["peer"] = [options.peer]
-    empty, _ = fastest({"empty": ["true"]}, b"", 20)
-    start = empty["empty"]
-    print(f"A program that does nothing takes {start * 1e6:.0f} us to start and end; reports are given less that.")
-
     def us(seconds):
         return f"{seconds * 1e6:.0f}"
 
     head("Read, check, total and report, in us", "file", programs)
     for name, shape in [
         ("largest: 512 stations, 768 lines, 64 places", dict(shape="feeders", hanging=257)),
+        ("feeders, 512 stations, 511 lines", dict(shape="feeders")),
         ("chain of 512 stations", dict(shape="chain")),
         ("star of 512 stations", dict(shape="star")),
-        ("64 stations", dict(shape="feeders", stations=64)),
+        ("feeders, 256 stations", dict(shape="feeders", stations=256)),
+        ("feeders, 128 stations", dict(shape="feeders", stations=128)),
     ]:
         best, _ = fastest(programs, networks.network(adds=0, **shape), 30)
-        row(name, {p: max(best[p] - start, 1e-6) for p in programs}, programs, us)
+        row(name, best, programs, us)
+
+    head("Calls within one process, in us", "call, largest file without additions", ("breakers", "second"))
+    timed = subprocess.run(programs["second"][:1] + ["--time"], input=networks.network("feeders", hanging=257, adds=0), stdout=subprocess.PIPE, check=True)
+    for line in timed.stdout.decode().splitlines():
+        name, ours, second = line.split()
+        row(name, {"breakers": int(ours) / 1e9, "second": int(second) / 1e9}, ("breakers", "second"), us)
 
     head("Peak memory, in kB", "file", programs)
     data = networks.network("feeders", hanging=257, visits=1000)

@@ -5,6 +5,7 @@
 //! compare --mistake NUMBER ..                         the same, with a mistake in the second implementation
 //! compare --mutations [--cases N] [--seed S]          each mistake in turn; all must be found
 //! compare --print                                     what `breakers` must print of standard input
+//! compare --time                                      how long Check, Total and Report of standard input take
 //!
 //! Where the engine is not linked, the second implementation without mistakes stands in for it, and a mistake must be named.
 
@@ -18,7 +19,7 @@ use std::io::{Read, Write};
 use std::os::unix::fs::FileExt;
 use std::path::PathBuf;
 use std::process::ExitCode;
-use std::time::Duration;
+use std::time::{Duration, Instant};
 
 struct Options {
     cases: u64,
@@ -27,6 +28,7 @@ struct Options {
     mistake: usize,
     mutations: bool,
     print: bool,
+    time: bool,
     /// The one file by chance to look at
     case: Option<u64>,
     /// A file in which the number of the file at hand is kept, should the engine end the process
@@ -34,16 +36,26 @@ struct Options {
 }
 
 fn options() -> Result<Options, String> {
-    let mut options =
-        Options { cases: 15_000, seed: 1, program: None, mistake: 0, mutations: false, print: false, case: None, at: None };
+    let mut options = Options {
+        cases: 15_000,
+        seed: 1,
+        program: None,
+        mistake: 0,
+        mutations: false,
+        print: false,
+        time: false,
+        case: None,
+        at: None,
+    };
     let mut args = std::env::args().skip(1);
     while let Some(name) = args.next() {
         match name.as_str() {
             "--mutations" => options.mutations = true,
             "--print" => options.print = true,
+            "--time" => options.time = true,
             _ => {}
         }
-        if name == "--mutations" || name == "--print" {
+        if name == "--mutations" || name == "--print" || name == "--time" {
             continue;
         }
         let value = args.next().ok_or(format!("{name} wants a value"))?;
@@ -227,6 +239,37 @@ fn print() -> bool {
     read.and_then(|_| std::io::stdout().write_all(&printed)).is_ok()
 }
 
+/// The fastest of many runs of a call, in nanoseconds.
+fn fastest(call: &mut dyn FnMut()) -> u128 {
+    let begin = Instant::now();
+    let mut least = u128::MAX;
+    while begin.elapsed() < Duration::from_millis(300) {
+        let start = Instant::now();
+        call();
+        least = least.min(start.elapsed().as_nanos());
+    }
+    least
+}
+
+/// For each of three calls its name, the engine's time and that of the second implementation, in nanoseconds.
+fn time(options: &Options) -> bool {
+    let mut file = Vec::new();
+    let read = std::io::stdin().read_to_end(&mut file);
+    let engine = engine(options);
+    let mut answer = [0; 6];
+    let mut text = vec![0; 32_768];
+    let both = |name: &str, call: &mut dyn FnMut(&dyn Calls)| {
+        let ours = fastest(&mut || call(&*engine));
+        // a new one each time, since it keeps the last file
+        let second = fastest(&mut || call(&Second::new(None)));
+        println!("{name} {ours} {second}");
+    };
+    both("Check", &mut |calls| assert!(calls.check(&file, &mut answer)));
+    both("Total", &mut |calls| assert!(calls.total(&file, &mut answer)));
+    both("Report", &mut |calls| assert!(calls.report(&file, &mut text, &mut answer)));
+    read.is_ok()
+}
+
 fn main() -> ExitCode {
     let options = match options() {
         Ok(options) => options,
@@ -241,6 +284,8 @@ fn main() -> ExitCode {
     }
     let right = if options.print {
         print()
+    } else if options.time {
+        time(&options)
     } else if options.mutations {
         mutations(&options)
     } else {
