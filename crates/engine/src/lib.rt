@@ -238,14 +238,14 @@ fn bound_table(
     relations: &[u64; 4225],
     ends: &[u64; 65],
     sums: &[u64; 768],
-    levels: &[u64; 3120],
+    level: &[u64; 195],
     bounds: &mut [u64; 1105],
 )
-    requires { ⌜ Tables (networkIn (now net)) (now relations) (now ends) (now sums) × Level (networkIn (now net)) [] 0 1 (now levels) × (length (now bounds) ≡ 1105) ⌝ }
+    requires { ⌜ Tables (networkIn (now net)) (now relations) (now ends) (now sums) × Level (networkIn (now net)) [] 1 (now level) × (length (now bounds) ≡ 1105) ⌝ }
     ensures { λ r. ⌜ HoldsBounds (networkIn (now (net .entry))) (now (bounds .exit)) ⌝ }
 {
     let mut savings = [0u64; 64];
-    search::savings_of(net, relations, ends, sums, levels, &mut savings);
+    search::savings_of(net, relations, ends, sums, level, &mut savings);
     search::bound_table(&savings, buffer::places(net), bounds);
 }
 
@@ -274,28 +274,33 @@ fn walk(
     ensures { λ r. ⌜ (foundIn r (now (best .exit)) ≡ search (networkIn (now (net .entry)))) × (length (now (best .exit)) ≡ 16) × (r .count ≤ 16) ⌝ }
 {
     let mut relations = relations_space();
+    let mut lists = relations_space();
     let mut ends = [0u64; 65];
-    let mut levels = levels_space();
+    let mut level = [0u64; 195];
     places::prepare(
         net,
         near,
         feed,
         order,
         &mut relations,
+        &mut lists,
         &mut ends,
-        &mut levels,
+        &mut level,
     );
     let mut bounds = [0u64; 1105];
-    bound_table(net, &relations, &ends, sums, &levels, &mut bounds);
+    bound_table(net, &relations, &ends, sums, &level, &mut bounds);
+    let mut saved = saved_space();
     let mut set = [0u64; 16];
     *best = [0u64; 16];
     search::walk(
         net,
         &relations,
         &ends,
+        &lists,
         sums,
         &bounds,
-        &mut levels,
+        &mut level,
+        &mut saved,
         &mut set,
         best,
         total,
@@ -470,13 +475,15 @@ fn nexts_space() -> [u64; 1536] {
     [0; 1536]
 }
 
-// Room for the relations of the places.
+// Room for a number of each two places.
 fn relations_space() -> [u64; 4225] {
     [0; 4225]
 }
 
-// Room for the levels of a walk.
-fn levels_space() -> [u64; 3120] {
+// Room for what a walk changes in its level.
+fn saved_space() -> [u64; 3120]
+    ensures { λ r. ⌜ length r ≡ 3120 ⌝ }
+{
     [0; 3120]
 }
 

@@ -1,5 +1,5 @@
--- Level 0, place after place: the codes of the breakers near the places, then their weights and the most breakers in series with them.
-use Prim.Native.Nat.{ℕ, _+_, _*_, _-_, _≤_, _<_}
+-- The level of the empty set, place after place: the codes of the breakers near the places, then their weights and the most breakers in series with them.
+use Prim.Native.Nat.{ℕ, _+_, _-_, _≤_, _<_}
 use mathlib.Core.Path.{_≡_, sym, ap, _∙_}
 use mathlib.Core.List.{List, []}
 use native.Mathlib.Decide.{ℕ-discrete}
@@ -20,24 +20,24 @@ use Rattle.places.proofs.OnEnds.{place-in}
 
 -- each place up to k has its number at its position
 abbrev pub Filled : (ℕ → ℕ) → (ℕ → ℕ) → List ℕ → ℕ → Type 0
-Filled value position levels k = (p : ℕ) → 1 ≤ p → p < k → getD levels (position p) 0 ≡ value p
+Filled value position level k = (p : ℕ) → 1 ≤ p → p < k → getD level (position p) 0 ≡ value p
 
-module _ (value position : ℕ → ℕ) (levels : List ℕ) (k : ℕ) where
+module _ (value position : ℕ → ℕ) (level : List ℕ) (k : ℕ) where
   -- one place more
-  pub filled-more : (v : ℕ) → position k < length levels → ((p : ℕ) → position p ≡ position k → p ≡ k) → v ≡ value k → Filled value position levels k
-      → Filled value position (set levels (position k) v) (k + 1)
+  pub filled-more : (v : ℕ) → position k < length level → ((p : ℕ) → position p ≡ position k → p ≡ k) → v ≡ value k → Filled value position level k
+      → Filled value position (set level (position k) v) (k + 1)
   filled-more v h one e f p a b = go (ℕ-discrete p k)
     where
-      go : Dec (p ≡ k) → getD (set levels (position k) v) (position p) 0 ≡ value p
-      go (yes q) = ap (λ j. getD (set levels (position k) v) (position j) 0) q ∙ getD-set-same levels (position k) v 0 h ∙ e ∙ ap value (sym q)
-      go (no q) = getD-set-other levels (position k) (position p) v 0 (λ e. q (one p e)) ∙ f p a (omega arith)
+      go : Dec (p ≡ k) → getD (set level (position k) v) (position p) 0 ≡ value p
+      go (yes q) = ap (λ j. getD (set level (position k) v) (position j) 0) q ∙ getD-set-same level (position k) v 0 h ∙ e ∙ ap value (sym q)
+      go (no q) = getD-set-other level (position k) (position p) v 0 (λ e. q (one p e)) ∙ f p a (omega arith)
 
   -- a number elsewhere
-  pub filled-other : (q v : ℕ) → ((p : ℕ) → 1 ≤ p → p < k → position p ≡ q → ⊥) → Filled value position levels k → Filled value position (set levels q v) k
-  filled-other q v n f p a b = getD-set-other levels q (position p) v 0 (n p a b) ∙ f p a b
+  pub filled-other : (q v : ℕ) → ((p : ℕ) → 1 ≤ p → p < k → position p ≡ q → ⊥) → Filled value position level k → Filled value position (set level q v) k
+  filled-other q v n f p a b = getD-set-other level q (position p) v 0 (n p a b) ∙ f p a b
 
 module _ (N : Network) where
-  -- what level 0 has
+  -- what it has
   abbrev pub nearCode : ℕ → ℕ
   nearCode p = endCode (nearAt N [] (endAt N p))
 
@@ -59,24 +59,20 @@ module _ (N : Network) where
 
   -- the weights and the most breakers in series of the places up to k, beside the near ends
   abbrev pub Valued : List ℕ → ℕ → Type 0
-  Valued levels k = HoldsNears N levels × Filled weightOf (λ p. 65 + p) levels k × Filled worstOf (λ p. 130 + p) levels k
+  Valued level k = HoldsNears N level × Filled weightOf (λ p. 65 + p) level k × Filled worstOf (λ p. 130 + p) level k
 
-  pub valued-none : (levels : List ℕ) → HoldsNears N levels → Valued levels 1
-  valued-none levels n = (n, (λ p a b. absurd (omega arith)), λ p a b. absurd (omega arith))
+  pub valued-none : (level : List ℕ) → HoldsNears N level → Valued level 1
+  valued-none level n = (n, (λ p a b. absurd (omega arith)), λ p a b. absurd (omega arith))
 
-  pub valued-more : length (N .places) ≤ 64 → (levels : List ℕ) (k v w : ℕ) → 195 ≤ length levels → k ≤ 64 → v ≡ weightOf k → w ≡ worstOf k → Valued levels k
-      → Valued (set (set levels (65 + k) v) (130 + k) w) (k + 1)
-  valued-more few levels k v w h b ev ew (n, f, g) =
-      let next : List ℕ = set levels (65 + k) v in (
-        λ p i j. getD-set-other next (130 + k) p w 0 (omega arith) ∙ getD-set-other levels (65 + k) p v 0 (omega arith) ∙ n p i j,
-        filled-other weightOf (λ p. 65 + p) next (k + 1) (130 + k) w (λ p i j e. omega arith) (filled-more weightOf (λ p. 65 + p) levels k v (omega arith) (λ p e. omega arith) ev f),
-        filled-more worstOf (λ p. 130 + p) next k w (omega (arith, length-set levels (65 + k) v)) (λ p e. omega arith) ew (filled-other worstOf (λ p. 130 + p) levels k (65 + k) v (λ p i j e. omega arith) g),
+  pub valued-more : length (N .places) ≤ 64 → (level : List ℕ) (k v w : ℕ) → 195 ≤ length level → k ≤ 64 → v ≡ weightOf k → w ≡ worstOf k → Valued level k
+      → Valued (set (set level (65 + k) v) (130 + k) w) (k + 1)
+  valued-more few level k v w h b ev ew (n, f, g) =
+      let next : List ℕ = set level (65 + k) v in (
+        λ p i j. getD-set-other next (130 + k) p w 0 (omega arith) ∙ getD-set-other level (65 + k) p v 0 (omega arith) ∙ n p i j,
+        filled-other weightOf (λ p. 65 + p) next (k + 1) (130 + k) w (λ p i j e. omega arith) (filled-more weightOf (λ p. 65 + p) level k v (omega arith) (λ p e. omega arith) ev f),
+        filled-more worstOf (λ p. 130 + p) next k w (omega (arith, length-set level (65 + k) v)) (λ p e. omega arith) ew (filled-other worstOf (λ p. 130 + p) level k (65 + k) v (λ p i j e. omega arith) g),
       )
 
   -- all places
-  pub valued-all : (levels : List ℕ) (k : ℕ) → length (N .places) < k → Valued levels k → Level N [] 0 1 levels
-  valued-all levels k b (n, f, g) = record {
-    near = λ p i j. ap (λ q. getD levels q 0) {x = 0 * 195 + p} {y = p} (omega arith) ∙ n p i j;
-    weight = λ p i j. ap (λ q. getD levels q 0) {x = 0 * 195 + 65 + p} {y = 65 + p} (omega arith) ∙ f p i (omega arith);
-    worst = λ p i j. ap (λ q. getD levels q 0) {x = 0 * 195 + 130 + p} {y = 130 + p} (omega arith) ∙ g p i (omega arith);
-  }
+  pub valued-all : (level : List ℕ) (k : ℕ) → length (N .places) < k → Valued level k → Level N [] 1 level
+  valued-all level k b (n, f, g) p i j = record { near = n p i j; weight = f p i (omega arith); worst = g p i (omega arith) }

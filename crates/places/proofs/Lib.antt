@@ -14,3 +14,4 @@ pub mod FarStations
 pub mod Raising
 pub mod Series
 pub mod LevelZero
+pub mod Listing

@@ -75,9 +75,12 @@ pub record HoldsRelations (N : Network) (relations : List ℕ) : Type 0 where
 abbrev pub HoldsEnds : Network → List ℕ → Type 0
 HoldsEnds N ends = (p : ℕ) → 1 ≤ p → p ≤ length (N .places) → getD ends p 0 ≡ endCode (endAt N p)
 
--- Level `d` of a buffer, 195 numbers a level: for the set S, of each place from `from` on, the code of the breaker near it,
--- its weight and the most breakers in series with it.
-pub record Level (N : Network) (S : List ℕ) (d from : ℕ) (levels : List ℕ) : Type 0 where
-  pub near : (p : ℕ) → from ≤ p → p ≤ length (N .places) → getD levels (d * 195 + p) 0 ≡ endCode (nearAt N S (endAt N p))
-  pub weight : (p : ℕ) → from ≤ p → p ≤ length (N .places) → getD levels (d * 195 + 65 + p) 0 ≡ weightAt N S (endAt N p)
-  pub worst : (p : ℕ) → from ≤ p → p ≤ length (N .places) → getD levels (d * 195 + 130 + p) 0 ≡ worstAt N S (endAt N p)
+-- the numbers of place p with the set S: the code of the breaker near it, its weight and the most breakers in series with it
+pub record Values (N : Network) (S : List ℕ) (p : ℕ) (level : List ℕ) : Type 0 where
+  pub near : getD level p 0 ≡ endCode (nearAt N S (endAt N p))
+  pub weight : getD level (65 + p) 0 ≡ weightAt N S (endAt N p)
+  pub worst : getD level (130 + p) 0 ≡ worstAt N S (endAt N p)
+
+-- the level of the set S: the numbers of each place from `from` on
+abbrev pub Level : Network → List ℕ → ℕ → List ℕ → Type 0
+Level N S from level = (p : ℕ) → from ≤ p → p ≤ length (N .places) → Values N S p level

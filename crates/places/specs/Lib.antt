@@ -10,3 +10,4 @@ pub mod Held
 pub mod Meets
 pub mod Climb
 pub mod Own
+pub mod Lists

@@ -140,50 +140,50 @@ fn start_worst(net: &[u64; 5129], relations: &[u64; 4225], own: &[u64; 65], p: u
     worst
 }
 
-// The codes of the breakers near the places, at level 0.
-fn fill_nears(net: &[u64; 5129], trips: &[u64; 768], levels: &mut [u64])
-    requires { ⌜ Accepted (networkIn (now net)) × HoldsTrips (networkIn (now net)) (now trips) × (length (now levels) ≡ 3120) ⌝ }
-    ensures { λ r. ⌜ HoldsNears (networkIn (now (net .entry))) (now (levels .exit)) ⌝ }
+// The codes of the breakers near the places.
+fn fill_nears(net: &[u64; 5129], trips: &[u64; 768], level: &mut [u64])
+    requires { ⌜ Accepted (networkIn (now net)) × HoldsTrips (networkIn (now net)) (now trips) × (length (now level) ≡ 195) ⌝ }
+    ensures { λ r. ⌜ HoldsNears (networkIn (now (net .entry))) (now (level .exit)) ⌝ }
 {
     for p in 1..buffer::places(net) + 1 {
-        levels[p] = trips[buffer::place_line(net, p) - 1];
+        level[p] = trips[buffer::place_line(net, p) - 1];
     }
 }
 
-// The weights of the places and the most breakers in series with them, at level 0, which has the codes of the breakers near them.
+// The weights of the places and the most breakers in series with them, in a level that has the codes of the breakers near them.
 fn fill_values(
     net: &[u64; 5129],
     relations: &[u64; 4225],
     own: &[u64; 65],
     worst: &[u64; 65],
-    levels: &mut [u64],
+    level: &mut [u64],
 )
-    requires { ⌜ Accepted (networkIn (now net)) × HoldsRelations (networkIn (now net)) (now relations) × HoldsOwn (networkIn (now net)) (now own) × HoldsOwnWorst (networkIn (now net)) (now worst) × HoldsNears (networkIn (now net)) (now levels) × (length (now levels) ≡ 3120) ⌝ }
-    ensures { λ r. ⌜ Level (networkIn (now (net .entry))) [] 0 1 (now (levels .exit)) ⌝ }
+    requires { ⌜ Accepted (networkIn (now net)) × HoldsRelations (networkIn (now net)) (now relations) × HoldsOwn (networkIn (now net)) (now own) × HoldsOwnWorst (networkIn (now net)) (now worst) × HoldsNears (networkIn (now net)) (now level) × (length (now level) ≡ 195) ⌝ }
+    ensures { λ r. ⌜ Level (networkIn (now (net .entry))) [] 1 (now (level .exit)) ⌝ }
 {
     for p in 1..buffer::places(net) + 1 {
-        levels[65 + p] = start_weight(net, relations, own, levels, p);
-        levels[130 + p] = start_worst(net, relations, worst, p);
+        level[65 + p] = start_weight(net, relations, own, level, p);
+        level[130 + p] = start_worst(net, relations, worst, p);
     }
 }
 
-// Level 0: of each place the breaker near it, its weight and the most breakers in series with it, before any place is chosen.
+// The level of the empty set: of each place the breaker near it, its weight and the most breakers in series with it.
 fn fill_start(
     net: &[u64; 5129],
     trips: &[u64; 768],
     relations: &[u64; 4225],
     own: &[u64; 65],
     worst: &[u64; 65],
-    levels: &mut [u64; 3120],
+    level: &mut [u64; 195],
 )
     requires { ⌜ Accepted (networkIn (now net)) × HoldsTrips (networkIn (now net)) (now trips) × HoldsRelations (networkIn (now net)) (now relations) × HoldsOwn (networkIn (now net)) (now own) × HoldsOwnWorst (networkIn (now net)) (now worst) ⌝ }
-    ensures { λ r. ⌜ Level (networkIn (now (net .entry))) [] 0 1 (now (levels .exit)) × (length (now (levels .exit)) ≡ 3120) ⌝ }
+    ensures { λ r. ⌜ Level (networkIn (now (net .entry))) [] 1 (now (level .exit)) × (length (now (level .exit)) ≡ 195) ⌝ }
 {
-    fill_nears(net, trips, levels);
-    fill_values(net, relations, own, worst, levels);
+    fill_nears(net, trips, level);
+    fill_values(net, relations, own, worst, level);
 }
 
-// Level 0, from what the path of each line meets first and how the places stand to each other.
+// The level of the empty set, from what the path of each line meets first and how the places stand to each other.
 pub fn start_level(
     net: &[u64; 5129],
     near: &[u64; 768],
@@ -193,12 +193,12 @@ pub fn start_level(
     stops: &[u64; 768],
     counts: &[u64; 768],
     relations: &[u64; 4225],
-    levels: &mut [u64; 3120],
+    level: &mut [u64; 195],
 )
     requires { ⌜ Accepted (networkIn (now net)) × HoldsSides (networkIn (now net)) (now near) × HoldsPlaces (networkIn (now net)) (now marks) × HoldsLines (networkIn (now net)) (now trips) (now firsts) (now stops) (now counts) × HoldsRelations (networkIn (now net)) (now relations) ⌝ }
-    ensures { λ r. ⌜ Level (networkIn (now (net .entry))) [] 0 1 (now (levels .exit)) × (length (now (levels .exit)) ≡ 3120) ⌝ }
+    ensures { λ r. ⌜ Level (networkIn (now (net .entry))) [] 1 (now (level .exit)) × (length (now (level .exit)) ≡ 195) ⌝ }
 {
     let own = own_weights(net, stops);
     let worst = own_worsts(net, near, marks, firsts, counts);
-    fill_start(net, trips, relations, &own, &worst, levels);
+    fill_start(net, trips, relations, &own, &worst, level);
 }

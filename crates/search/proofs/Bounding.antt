@@ -127,12 +127,10 @@ module _ (N : Network) (a : Accepted N) (bounds : List ℕ) (t : HoldsBounds N b
               ∙ ap (walked (suc (r - 1)) (placesFrom N (place + 1))) (sym (on-false _ _ b))
 
     -- a set with nothing to gain
-    pub barren : (r place : ℕ) → r ≤ 16 → (f : Found) → Barren N bounds (f .best) (setTotal N S) place r → extended N r S (place + 1) f ≡ f
-    barren r place few f x = go (decLt place (length (N .places))) (decLt 0 r)
+    pub barren : (r place : ℕ) → r ≤ 16 → 1 ≤ place → (f : Found) → Barren N bounds (f .spent) (f .best) (setTotal N S) place r → extended N r S place f ≡ f
+    barren r place few low f x = go (decLt (length (N .places)) place) (decLt 0 r)
       where
-        go : Dec (place < length (N .places)) → Dec (0 < r) → extended N r S (place + 1) f ≡ f
-        go (no h) _ = none-later r (place + 1) f (omega arith)
-        go (yes h) (no l) = none-more r (place + 1) f (omega arith)
-        go (yes h) (yes l) = stop-bound r (place + 1) few (omega arith) (omega arith) (λ e. omega arith) f
-            (⊎-elim (λ e. absurd (omega arith))
-            (λ y. ⊎-elim (λ e. absurd (omega arith)) (λ e. omega (arith, ap (λ n. getD bounds n 0) {x = r * 65 + (place + 1) - 1} {y = r * 65 + place} (omega arith), e)) y) x)
+        go : Dec (length (N .places) < place) → Dec (0 < r) → extended N r S place f ≡ f
+        go (yes h) _ = none-later r place f h
+        go (no h) (no l) = none-more r place f (omega arith)
+        go (no h) (yes l) = ⊎-elim (λ e. absurd (omega arith)) (λ y. ⊎-elim (λ e. absurd (h e)) (λ z. ⊎-elim (stop-spent r place few low (omega arith) (λ e. omega arith) f) (stop-bound r place few low (omega arith) (λ e. omega arith) f) z) y) x

@@ -1,151 +1,123 @@
--- The level of a set, written place by place.
-use Prim.Native.Nat.{ℕ, _+_, _*_, _-_, _≤_, _<_}
-use mathlib.Core.Path.{_≡_, refl, sym, ap, _∙_}
-use mathlib.Core.Bool.{Bool, false}
-use mathlib.Core.Logic.{⊎-elim}
+-- The level of a set without its last member becomes the set's own, place by place of those that the member is related to.
+use Prim.Native.Nat.{ℕ, _+_, _*_, _≤_, _<_}
+use mathlib.Core.Path.{_≡_, refl, ap, _∙_, subst}
+use mathlib.Core.Logic.{inr, ⊎-elim}
 use mathlib.Core.List.{List}
+use native.Mathlib.Decide.{ℕ-discrete}
 use native.Mathlib.Nat.{eq-or-lt-of-le}
 use native.Mathlib.Omega.{arith}
-use lib.ListN.{length, length-set, getD, set, take}
-use lib.Seq.{getD-set-same, getD-set-other, getD-take, take-set-le}
+use lib.ListN.{length, getD}
 use Rattle.model.specs.Network.{Network}
 use Rattle.savings.specs.Breakers.{endAt}
 use Rattle.tree.specs.Linked.{endCode}
 use Rattle.places.specs.Sets.{nearAt, weightAt, worstAt}
-use Rattle.places.specs.Held.{Level}
-use Rattle.search.specs.Chosen.{Chosen, Later, readTo, Entering, Entered}
+use Rattle.places.specs.Held.{Values}
+use Rattle.places.specs.Lists.{many, listed, Row, Listed, SameUpTo}
+use Rattle.search.specs.Changes.{Same, Changed, Put, Keeping}
+use Rattle.search.specs.Chosen.{Later, Entering, Entered}
+use Rattle.search.proofs.Levels.{later-of, values-kept}
+use Rattle.search.proofs.Undoing.{changed-none, changed-more}
 
--- a number among the first of a buffer that are as they were
-getD-kept : (n i : ℕ) (levels levels' : List ℕ) → take n levels' ≡ take n levels → i < n → getD levels' i 0 ≡ getD levels i 0
-getD-kept n i levels levels' e h = sym (getD-take n levels' i 0 h) ∙ ap (λ l. getD l i 0) e ∙ getD-take n levels i 0 h
+-- a place whose numbers are the same has the same values
+values-same : {N : Network} {S old new : List ℕ} {p : ℕ} → Same old new p → Values N S p old → Values N S p new
+values-same s v = record { near = s .0 ∙ v .near; weight = s .1 ∙ v .weight; worst = s .2 ∙ v .worst }
 
--- a level among them
-pub level-kept : (N : Network) (S : List ℕ) (d from n : ℕ) (levels levels' : List ℕ) → length (N .places) ≤ 64 → d * 195 + 195 ≤ n → take n levels' ≡ take n levels
-    → Level N S d from levels → Level N S d from levels'
-level-kept N S d from n levels levels' f h e l = record {
-  near = λ p a b. getD-kept n (d * 195 + p) levels levels' e (omega arith) ∙ l .near p a b;
-  weight = λ p a b. getD-kept n (d * 195 + 65 + p) levels levels' e (omega arith) ∙ l .weight p a b;
-  worst = λ p a b. getD-kept n (d * 195 + 130 + p) levels levels' e (omega arith) ∙ l .worst p a b;
-}
+-- a row of a file's lists, in the lists' room
+pub row-wide : {lists : List ℕ} {q m end : ℕ} → end ≤ 65 → Row lists q m end → Row lists q m 65
+row-wide h r = record { few = omega (arith, r .few); later = λ i a b. (r .later i a b .0, omega (arith, r .later i a b .1)); rising = r .rising }
 
-pub chosen-kept : {N : Network} {relations levels S : List ℕ} {size last : ℕ} → Chosen N relations levels S size last → (levels' : List ℕ) (n : ℕ) → readTo size ≤ n → take n levels' ≡ take n levels
-    → Chosen N relations levels' S size last
-chosen-kept {N} {relations} {levels} {S} {size} {last} x levels' n h e = record {
-  accepted = x .accepted;
-  related = x .related;
-  few = x .few;
-  high = x .high;
-  members = x .members;
-  series = x .series;
-  rest = x .rest;
-  from = x .from;
-  level = level-kept N (x .rest) (size - 1) (x .from) n levels levels' (x .accepted .read .placeCount) h e (x .level);
-  within = x .within;
-  split = x .split;
-}
+-- the places listed before index i are written
+pub record Written (N : Network) (lists S : List ℕ) (size last : ℕ) (level₀ saved₀ : List ℕ) (i end : ℕ) (level saved : List ℕ) : Type 0 where
+  pub low : 1 ≤ i
+  pub within : i ≤ end
+  pub all : end ≡ many lists last + 1
+  pub levelLong : length level ≡ 195
+  pub savedLong : length saved ≡ 3120
+  pub changed : Changed lists last (size * 195) 1 i level₀ level saved
+  pub values : (j : ℕ) → 1 ≤ j → j < i → Values N S (listed lists last j) level
+  pub below : SameUpTo (size * 195) saved₀ saved
 
--- the places before `place` are written
-pub record Written (N : Network) (S : List ℕ) (size from : ℕ) (levels₀ : List ℕ) (place end : ℕ) (levels : List ℕ) : Type 0 where
-  pub low : from ≤ place
-  pub within : place ≤ end
-  pub all : end ≡ length (N .places) + 1
-  pub long : length levels ≡ 3120
-  pub same : take (size * 195) levels ≡ take (size * 195) levels₀
-  pub near : (p : ℕ) → from ≤ p → p < place → getD levels (size * 195 + p) 0 ≡ endCode (nearAt N S (endAt N p))
-  pub weight : (p : ℕ) → from ≤ p → p < place → getD levels (size * 195 + 65 + p) 0 ≡ weightAt N S (endAt N p)
-  pub worst : (p : ℕ) → from ≤ p → p < place → getD levels (size * 195 + 130 + p) 0 ≡ worstAt N S (endAt N p)
+module _ {N : Network} {relations ends lists level₀ saved₀ S : List ℕ} {size last : ℕ} (x : Entering N relations ends lists level₀ saved₀ S size last) where
+  places-few : length (N .places) ≤ 64
+  places-few = x .chosen .accepted .read .placeCount
 
--- a number other than the three that are set
-set3-other : (l : List ℕ) (i j k a b c q : ℕ) → (q ≡ i → ⊥) → (q ≡ j → ⊥) → (q ≡ k → ⊥) → getD (set (set (set l i a) j b) k c) q 0 ≡ getD l q 0
-set3-other l i j k a b c q x y z = getD-set-other (set (set l i a) j b) k q c 0 z ∙ getD-set-other (set l i a) j q b 0 y ∙ getD-set-other l i q a 0 x
+  own : Listed relations lists last (many lists last) (length (N .places) + 1)
+  own = x .related last (x .without .low) (x .chosen .high)
 
-module _ {N : Network} {relations ends levels₀ S : List ℕ} {size last from : ℕ} {entered : Bool} (x : Entering N relations ends levels₀ S size last from entered) (n : entered ≡ false) where
-  pub written-none : (end : ℕ) → end ≡ length (N .places) + 1 → Written N S size from levels₀ from end levels₀
+  pub row : Row lists last (many lists last) 65
+  row = row-wide (omega (arith, places-few)) (own .row)
+
+  pub last-few : last ≤ 64
+  last-few = omega (arith, x .chosen .high, places-few)
+
+  pub written-none : (end : ℕ) → end ≡ many lists last + 1 → Written N lists S size last level₀ saved₀ 1 end level₀ saved₀
   written-none end e = record {
     low = omega arith;
-    within = omega (arith, x .high);
+    within = omega arith;
     all = e;
-    long = x .long;
-    same = refl;
-    near = λ p a b. absurd (omega arith);
-    weight = λ p a b. absurd (omega arith);
-    worst = λ p a b. absurd (omega arith);
+    levelLong = x .levelLong;
+    savedLong = x .savedLong;
+    changed = changed-none row;
+    values = λ j a b. absurd (omega arith);
+    below = λ k h. refl;
   }
 
-  module _ {place end : ℕ} {levels : List ℕ} (w : Written N S size from levels₀ place end levels) where
-    pub later-place : place < end → Later N relations levels S size last place
-    later-place h = record {
-      chosen = chosen-kept (x .chosen) levels (size * 195) (omega (arith, x .none n)) (w .same);
-      low = omega (arith, x .low, w .low);
-      high = omega (arith, w .all);
-    }
+  module _ {i end : ℕ} {level saved : List ℕ} (w : Written N lists S size last level₀ saved₀ i end level saved) where
+    module _ (h : i < end) where
+      abbrev place : ℕ
+      place = listed lists last i
 
-    module _ {start : ℕ} (s : start ≡ (size - 1) * 195 + 195) (h : place < end) (a b c : ℕ) (ea : a ≡ endCode (nearAt N S (endAt N place))) (eb : b ≡ weightAt N S (endAt N place)) (ec : c ≡ worstAt N S (endAt N place)) where
-      abbrev i : ℕ
-      i = start + place
+      high : i ≤ many lists last
+      high = omega (arith, w .all)
 
-      abbrev j : ℕ
-      j = start + 65 + place
+      pub place-few : place ≤ 64
+      place-few = omega (arith, row .later i (w .low) high)
 
-      abbrev k : ℕ
-      k = start + 130 + place
+      -- the place and the last member are as they were
+      pub later-place : Later N relations level S last place
+      later-place =
+          let l = own .row .later i (w .low) high in
+          record {
+            last = last;
+            chosen = x .chosen;
+            low = l .0;
+            high = omega (arith, l .1);
+            early = omega arith;
+            values = inr (
+              refl,
+              x .without,
+              values-same (w .changed .same last last-few (λ j a b e. omega (arith, own .row .later j a (omega arith)))) (x .holds last (omega arith) (x .chosen .high)),
+              values-same (w .changed .same place place-few (λ j a b e. omega (arith, own .row .rising j i a b high))) (x .holds place (omega (arith, l .0)) (omega (arith, l .1))),
+            );
+          }
 
-      abbrev new : List ℕ
-      new = set (set (set levels i a) j b) k c
-
-      start-is : start ≡ size * 195
-      start-is = omega (arith, x .none n)
-
-      few : place ≤ 64
-      few = omega (arith, w .all, x .chosen .accepted .read .placeCount)
-
-      new-long : length new ≡ 3120
-      new-long = length-set (set (set levels i a) j b) k c ∙ length-set (set levels i a) j b ∙ length-set levels i a ∙ w .long
-
-      old : (q : ℕ) → (q ≡ i → ⊥) → (q ≡ j → ⊥) → (q ≡ k → ⊥) → getD new q 0 ≡ getD levels q 0
-      old q = set3-other levels i j k a b c q
-
-      at-i : getD new i 0 ≡ a
-      at-i = getD-set-other (set (set levels i a) j b) k i c 0 (λ z. omega (arith, start-is)) ∙ getD-set-other (set levels i a) j i b 0 (λ z. omega (arith, start-is)) ∙ getD-set-same levels i a 0 (omega (arith, w .long, few, x .few, start-is))
-
-      at-j : getD new j 0 ≡ b
-      at-j = getD-set-other (set (set levels i a) j b) k j c 0 (λ z. omega (arith, start-is)) ∙ getD-set-same (set levels i a) j b 0 (omega (arith, length-set levels i a, w .long, few, x .few, start-is))
-
-      at-k : getD new k 0 ≡ c
-      at-k = getD-set-same (set (set levels i a) j b) k c 0 (omega (arith, length-set (set levels i a) j b, length-set levels i a, w .long, few, x .few, start-is))
-
-      pub written-more : Written N S size from levels₀ (place + 1) end new
-      written-more = record {
-        low = omega (arith, w .low);
+      pub written-more : {n v m : ℕ} {level' saved' : List ℕ} → n ≡ endCode (nearAt N S (endAt N place)) → v ≡ weightAt N S (endAt N place) → m ≡ worstAt N S (endAt N place)
+          → Keeping level (size * 195) place saved saved' → Put place n v m level level' → Written N lists S size last level₀ saved₀ (i + 1) end level' saved'
+      written-more en ev em k p = record {
+        low = omega arith;
         within = omega arith;
         all = w .all;
-        long = new-long;
-        same =
-            take-set-le (size * 195) (set (set levels i a) j b) k c (omega (arith, start-is))
-            ∙ take-set-le (size * 195) (set levels i a) j b (omega (arith, start-is))
-            ∙ take-set-le (size * 195) levels i a (omega (arith, start-is))
-            ∙ w .same;
-        near = λ p l m. ⊎-elim
-            (λ e. (λ z. getD new (sym start-is z + e z) 0) ∙ at-i ∙ ea ∙ ap (λ q. endCode (nearAt N S (endAt N q))) (sym e))
-            (λ n. old (size * 195 + p) (λ z. omega (arith, start-is)) (λ z. omega (arith, start-is, few)) (λ z. omega (arith, start-is, few)) ∙ w .near p l n)
-            (eq-or-lt-of-le {n = p} {m = place} (omega arith));
-        weight = λ p l m. ⊎-elim
-            (λ e. (λ z. getD new (sym start-is z + 65 + e z) 0) ∙ at-j ∙ eb ∙ ap (λ q. weightAt N S (endAt N q)) (sym e))
-            (λ n. old (size * 195 + 65 + p) (λ z. omega (arith, start-is, few)) (λ z. omega (arith, start-is)) (λ z. omega (arith, start-is, few)) ∙ w .weight p l n)
-            (eq-or-lt-of-le {n = p} {m = place} (omega arith));
-        worst = λ p l m. ⊎-elim
-            (λ e. (λ z. getD new (sym start-is z + 130 + e z) 0) ∙ at-k ∙ ec ∙ ap (λ q. worstAt N S (endAt N q)) (sym e))
-            (λ n. old (size * 195 + 130 + p) (λ z. omega (arith, start-is, few)) (λ z. omega (arith, start-is, few)) (λ z. omega (arith, start-is)) ∙ w .worst p l n)
-            (eq-or-lt-of-le {n = p} {m = place} (omega arith));
+        levelLong = p .long;
+        savedLong = k .long;
+        changed = changed-more row (w .low) high (w .changed) k p;
+        values = λ j a b. ⊎-elim
+            (λ e. rw e (record { near = p .near ∙ en; weight = p .weight ∙ ev; worst = p .worst ∙ em }))
+            (λ l. values-same (p .others (listed lists last j) (omega (arith, row .later j a (omega (arith, high)))) (λ e. omega (arith, own .row .rising j i a l high))) (w .values j a l))
+            (eq-or-lt-of-le {n = j} {m = i} (omega arith));
+        below = λ q l. k .below q l ∙ w .below q l;
       }
 
-    pub written-all : end ≤ place → Entered N S size from levels₀ levels
+    -- all of them are, and the others are not related to the last member
+    pub written-all : end ≤ i → Entered N lists S size last level₀ level saved₀ saved
     written-all h = record {
-      long = w .long;
-      level = record {
-        near = λ p a b. w .near p a (omega (arith, w .all));
-        weight = λ p a b. w .weight p a (omega (arith, w .all));
-        worst = λ p a b. w .worst p a (omega (arith, w .all));
-      };
-      same = ap (λ k. take k levels) {x = readTo size} {y = size * 195} (omega (arith, x .none n)) ∙ w .same ∙ ap (λ k. take k levels₀) {x = size * 195} {y = readTo size} (omega (arith, x .none n));
+      levelLong = w .levelLong;
+      savedLong = w .savedLong;
+      own = λ p a b. at p a b (ℕ-discrete (getD relations (last * 65 + p) 0) 0);
+      changed = subst (λ e. Changed lists last (size * 195) 1 e level₀ level saved) (omega (arith, w .all, w .within)) (w .changed);
+      below = w .below;
     }
+      where
+        at : (p : ℕ) → last + 1 ≤ p → p ≤ length (N .places) → Dec (getD relations (last * 65 + p) 0 ≡ 0) → Values N S p level
+        at p a b (yes z) = values-same (w .changed .same p (omega (arith, places-few)) (λ j c d e. own .only j c (omega (arith, w .all, w .within)) (ap (λ r. getD relations (last * 65 + r) 0) e ∙ z)))
+            (values-kept (later-of (x .chosen) (inr (refl, x .without, x .holds)) p (omega arith) b) z)
+        at p a b (no n) = let k = own .all p (omega arith) (omega arith) n in subst (λ r. Values N S r level) (k .is) (w .values (k .at) (k .low) (omega (arith, k .high, w .all)))

@@ -23,8 +23,8 @@ use Rattle.search.proofs.Nearby.{end-closed, before-free, behind-line, 
 use Rattle.search.proofs.OneMore.{before-later}
 use Rattle.search.proofs.Levels.{chosen-valid}
 
-module _ {N : Network} {relations levels S : List ℕ} {size last p : ℕ} (y : Later N relations levels S size last p) where
-  abbrev x : Chosen N relations levels S size last
+module _ {N : Network} {relations level S : List ℕ} {by p : ℕ} (y : Later N relations level S by p) where
+  abbrev x : Chosen N relations S (y .last)
   x = y .chosen
 
   abbrev e : End
@@ -37,7 +37,7 @@ module _ {N : Network} {relations levels S : List ℕ} {size last p : ℕ} (y : 
   closed = end-closed N (x .accepted) p (omega (arith, y .low)) (y .high)
 
   pub free : breakersWith N S e ≡ false
-  free = before-free N (x .accepted) p (omega (arith, y .low)) (y .high) S (before-later (last + 1) p S (omega (arith, y .low)) (x .members))
+  free = before-free N (x .accepted) p (omega (arith, y .low)) (y .high) S (before-later (y .last + 1) p S (omega (arith, y .low)) (x .members))
 
   near-shut : isOpen N near ≡ false
   near-shut = near-closed N (x .accepted) S (chosen-valid x) e closed free

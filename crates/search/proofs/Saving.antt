@@ -13,23 +13,12 @@ use Rattle.model.specs.Sets.{placeNumbers, withBreakers, setTotal, saving}
 use Rattle.theory.specs.Best.{Accepted}
 use Rattle.places.specs.Held.{HoldsRelations, Level}
 use Rattle.search.specs.Chosen.{Chosen, Later}
+use Rattle.search.proofs.Levels.{later-of}
 
 -- the empty set
-pub chosen-none : (N : Network) (relations levels : List ℕ) → Accepted N → HoldsRelations N relations → Level N [] 0 1 levels → Chosen N relations levels [] 0 0
+pub chosen-none : (N : Network) (relations : List ℕ) → Accepted N → HoldsRelations N relations → Chosen N relations [] 0
 unfolding withBreakers
-chosen-none N relations levels a r l = record {
-  accepted = a;
-  related = r;
-  few = omega arith;
-  high = omega arith;
-  members = tt;
-  series = a .series;
-  rest = [];
-  from = 1;
-  level = l;
-  within = omega arith;
-  split = inl (refl, refl);
-}
+chosen-none N relations a r = record { accepted = a; related = r; high = omega arith; members = tt; series = a .series }
 
 pub saving-is : (N : Network) (p r : ℕ) → r + setTotal N (p ∷ []) ≡ setTotal N [] → r ≡ saving N p
 unfolding saving setTotal withBreakers
@@ -57,8 +46,8 @@ unfolding numbers
 saved-none N end savings a e l = record { within = omega arith; all = e; few = omega (arith, a .read .placeCount); long = l; same = refl }
 
 module _ (N : Network) {i end : ℕ} {savings : List ℕ} (s : Saved N i end savings) where
-  pub next-later : i < end → (relations levels : List ℕ) → Chosen N relations levels [] 0 0 → Later N relations levels [] 0 0 (i + 1)
-  next-later h relations levels x = record { chosen = x; low = omega arith; high = omega (arith, s .all) }
+  pub next-later : i < end → (relations level : List ℕ) → Accepted N → HoldsRelations N relations → Level N [] 1 level → Later N relations level [] 0 (i + 1)
+  next-later h relations level a r l = later-of (chosen-none N relations a r) (inl (refl, l)) (i + 1) (omega arith) (omega (arith, s .all))
 
   pub saved-more : (v : ℕ) → i < end → v ≡ saving N (i + 1) → Saved N (i + 1) end (set savings i v)
   saved-more v h e =

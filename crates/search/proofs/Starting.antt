@@ -2,6 +2,7 @@
 use Prim.Native.Nat.{ℕ, _+_, _-_}
 use mathlib.Core.Path.{_≡_, refl, sym, _∙_}
 use mathlib.Core.Bool.{false}
+use mathlib.Core.Logic.{inl}
 use mathlib.Core.List.{List, []}
 use native.Mathlib.Omega.{arith}
 use lib.ListN.{length}
@@ -15,7 +16,7 @@ use Rattle.search.specs.Walking.{foundIn, visited, extended, Counted, Ex
 use Rattle.search.specs.declared.Progress.{Progress}
 use Rattle.search.proofs.Saving.{chosen-none}
 
-module _ {N : Network} {relations ends sums bounds levels set₀ best : List ℕ} (t : Total) (x : Starting N relations ends sums bounds levels set₀ best (t .0)) where
+module _ {N : Network} {relations ends lists sums bounds level saved set₀ best : List ℕ} (t : Total) (x : Starting N relations ends lists sums bounds level saved set₀ best (t .0)) where
   abbrev first : Progress
   first = record { best = t; count = 0; visits = 0; spent = false }
 
@@ -32,22 +33,25 @@ module _ {N : Network} {relations ends sums bounds levels set₀ best : List ℕ
   }
 
   module _ (adds : ℕ) (e : N .head .adds ≡ adds) where
-    pub extending-none : Extending N relations ends sums bounds levels set₀ (record { size = 0; last = 0; total = t; cost = 0; hours = 0 }) 1 adds
+    pub extending-none : Extending N relations ends lists sums bounds level saved set₀ (record { size = 0; last = 0; total = t; cost = 0; hours = 0 }) 1 adds
     unfolding sum
     extending-none = record {
       coded = x .tables .coded;
+      related = x .related;
       behind = x .tables .behind;
       table = x .table;
       standing = record {
         setLong = x .setLong;
-        chosen = chosen-none N relations levels (x .tables .accepted) (x .tables .related) (x .level);
+        chosen = chosen-none N relations (x .tables .accepted) (x .tables .related);
+        levelled = inl (refl, x .holds);
         total = total-none;
         cost = refl;
         hours = refl;
         affordable = omega arith;
         timely = omega arith;
       };
-      long = x .long;
+      levelLong = x .levelLong;
+      savedLong = x .savedLong;
       low = omega arith;
       high = omega arith;
       few = omega (arith, e);

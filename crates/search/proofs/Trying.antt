@@ -1,13 +1,13 @@
 -- One more place of the current set: its cost, its hours, and whether the set with it is allowed.
 use Prim.Native.Nat.{ℕ, _+_, _≤_, _<_}
 use mathlib.Core.Path.{_≡_, refl, sym, ap, _∙_}
-use mathlib.Core.Bool.{Bool, true, false, not, _&&_, true≢false}
+use mathlib.Core.Bool.{Bool, true, false, not, _&&_}
 use mathlib.Core.List.{List, [], _∷_, _++_, map}
 use native.Mathlib.Omega.{arith}
-use lib.Dec.{leb, ltb}
+use lib.Dec.{leb}
 use lib.ListN.{length, length-append, take}
 use lib.Seq.{length-take-le}
-use borrow.Author.Tests.{le-leb, ltb-true, ltb-false}
+use borrow.Author.Tests.{le-leb}
 use Rattle.model.specs.Lists.{sum}
 use Rattle.model.specs.Network.{Network, noPlace}
 use Rattle.model.specs.Rules.{seriesBroken}
@@ -21,7 +21,7 @@ use Rattle.search.specs.Chosen.{Later}
 use Rattle.search.specs.Walking.{Trying}
 use Rattle.search.specs.declared.Current.{Current}
 use Rattle.search.proofs.Nearby.{end-closed}
-use Rattle.search.proofs.Levels.{chosen-valid}
+use Rattle.search.proofs.Levels.{chosen-valid, later-of}
 use Rattle.search.proofs.Falling.{free}
 
 pub place-fits : (N : Network) → Read N → (p : ℕ) → 1 ≤ p → p ≤ length (N .places) → PlaceFits (length (N .lines)) (placeAt N p)
@@ -32,7 +32,15 @@ one-more : (f : ℕ → ℕ) (S : List ℕ) (q : ℕ) → sum (map f (S ++ (q �
 unfolding sum
 one-more f S q = omega (arith, sum-append f S (q ∷ []))
 
-module _ {N : Network} {relations levels set : List ℕ} {at : Current} {q : ℕ} (x : Trying N relations levels set at q) where
+and-false : (b : Bool) → (b && false) ≡ false
+and-false true = refl
+and-false false = refl
+
+and-true : (b : Bool) → (b && true) ≡ b
+and-true true = refl
+and-true false = refl
+
+module _ {N : Network} {relations level set : List ℕ} {at : Current} {by q : ℕ} (x : Trying N relations level set at by q) where
   abbrev S : List ℕ
   S = take (at .size) set
 
@@ -42,8 +50,8 @@ module _ {N : Network} {relations levels set : List ℕ} {at : Current} {q : ℕ
   read : Read N
   read = x .standing .chosen .accepted .read
 
-  later : Later N relations levels S (at .size) (at .last) q
-  later = record { chosen = x .standing .chosen; low = x .low; high = x .high }
+  pub later : Later N relations level S by q
+  later = later-of (x .standing .chosen) (x .standing .levelled) q (x .low) (x .high)
 
   pub cost-with : {cost : ℕ} → cost ≡ at .cost + placeAt N q .cost → cost ≡ sum (map (λ p. placeAt N p .cost) T)
   cost-with c = omega (arith, c, x .standing .cost, one-more (λ p. placeAt N p .cost) S q)
@@ -59,25 +67,29 @@ module _ {N : Network} {relations levels set : List ℕ} {at : Current} {q : ℕ
     unfolding allowed
     allowed-is =
         let few : leb (length T) (N .head .adds) ≡ true
-        = le-leb (length T) (N .head .adds) (omega (arith, x .few, length-append S (q ∷ []), length-take-le (at .size) set (omega (arith, x .standing .setLong, x .standing .chosen .few)))) in
+        = le-leb (length T) (N .head .adds) (omega (arith, x .few, length-append S (q ∷ []), length-take-le (at .size) set (omega (arith, x .standing .setLong, read .head .adds .high)))) in
         λ i. few i && leb (sym (cost-with c) i) (N .head .money) && leb (sym (hours-with h) i) (N .head .hours) && not (seriesBroken (withBreakers N T))
 
-    -- the cost or the hours are too much
-    pub costly : affordable ≡ false → false ≡ allowed N T
-    costly a = sym (allowed-is ∙ ap (λ b. b && not (seriesBroken (withBreakers N T))) a)
+  -- the series rule
+  module _ {worst : ℕ} (w : worst ≡ worstAt N S (endAt N q)) where
+    both-ways : (seriesBroken (withBreakers N T) ≡ false → worst < N .head .series) × (worst < N .head .series → seriesBroken (withBreakers N T) ≡ false)
+    both-ways =
+        let k = x .standing .chosen in
+        let s = set-series N read (k .accepted .rules) S (chosen-valid k) q (end-closed N (k .accepted) q (omega (arith, x .low)) (x .high)) (free later) in
+        (λ b. omega (arith, s .0 b .1, w), λ l. s .1 (k .series, omega (arith, l, w)))
 
-    -- the series rule decides
-    pub in-series : {worst : ℕ} → affordable ≡ true → worst ≡ worstAt N S (endAt N q) → ltb worst (N .head .series) ≡ allowed N T
-    in-series {worst} a w = go (seriesBroken (withBreakers N T)) (ltb worst (N .head .series)) refl refl ∙ sym (allowed-is ∙ ap (λ b. b && not (seriesBroken (withBreakers N T))) a)
+    -- it is broken
+    pub too-many : N .head .series ≤ worst → false ≡ allowed N T
+    too-many l = go (seriesBroken (withBreakers N T)) refl
       where
-        both-ways : (seriesBroken (withBreakers N T) ≡ false → worst < N .head .series) × (worst < N .head .series → seriesBroken (withBreakers N T) ≡ false)
-        both-ways =
-            let k = x .standing .chosen in
-            let s = set-series N read (k .accepted .rules) S (chosen-valid k) q (end-closed N (k .accepted) q (omega (arith, x .low)) (x .high)) (free later) in
-            (λ b. omega (arith, s .0 b .1, w), λ l. s .1 (k .series, omega (arith, l, w)))
+        means : Bool
+        means = leb (at .cost + placeAt N q .cost) (N .head .money) && leb (at .hours + placeAt N q .hours) (N .head .hours)
 
-        go : (b t : Bool) → seriesBroken (withBreakers N T) ≡ b → ltb worst (N .head .series) ≡ t → t ≡ not b
-        go true true b t = absurd (true≢false (sym b ∙ both-ways .1 (ltb-true worst (N .head .series) t)))
-        go true false b t = refl
-        go false true b t = refl
-        go false false b t = absurd (omega (arith, both-ways .0 b, ltb-false worst (N .head .series) t))
+        go : (b : Bool) → seriesBroken (withBreakers N T) ≡ b → false ≡ allowed N T
+        go true b = sym (allowed-is refl refl ∙ ap (λ b. means && not b) b ∙ and-false means)
+        go false b = absurd (omega (arith, both-ways .0 b))
+
+    -- it is kept, and the money and the hours decide
+    pub few-enough : {cost hours : ℕ} (c : cost ≡ at .cost + placeAt N q .cost) (h : hours ≡ at .hours + placeAt N q .hours) → worst < N .head .series
+        → (leb cost (N .head .money) && leb hours (N .head .hours)) ≡ allowed N T
+    few-enough c h l = sym (allowed-is c h ∙ ap (λ b. affordable c h && not b) (both-ways .1 l) ∙ and-true (affordable c h))

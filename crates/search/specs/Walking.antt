@@ -1,7 +1,7 @@
 -- The walk over sets of places: what it has found, what it reads, and where it stands.
 use Prim.Native.Nat.{ℕ, _+_, _*_, _-_, _≤_, _<_}
 use mathlib.Core.Path.{_≡_}
-use mathlib.Core.Bool.{true, false}
+use mathlib.Core.Bool.{Bool, true, false}
 use mathlib.Core.Logic.{_⊎_}
 use mathlib.Core.List.{List, [], _∷_, _++_, map}
 use lib.ListN.{length, getD, take}
@@ -12,8 +12,9 @@ use Rattle.model.specs.Sets.{placeNumbers, placeAt, allowed, setTotal, saving}
 use Rattle.model.specs.Walk.{Found, visit, extend}
 use Rattle.outage.specs.Held.{HoldsCustomers}
 use Rattle.places.specs.Held.{HoldsEnds, Level}
+use Rattle.places.specs.Lists.{HoldsLists, SameUpTo}
 use Rattle.search.specs.Bounds.{Bounds}
-use Rattle.search.specs.Chosen.{Chosen, Tables, readTo}
+use Rattle.search.specs.Chosen.{Chosen, Levelled, Tables}
 use Rattle.search.specs.declared.Progress.{Progress}
 use Rattle.search.specs.declared.Current.{Current}
 
@@ -50,9 +51,10 @@ abbrev pub HoldsBounds : Network → List ℕ → Type 0
 HoldsBounds N bounds = Bounds (map (λ p. saving N p) (placeNumbers N)) 0 bounds
 
 -- the set that the walk stands at
-pub record Standing (N : Network) (relations levels set : List ℕ) (at : Current) : Type 0 where
+pub record Standing (N : Network) (relations level set : List ℕ) (at : Current) (by : ℕ) : Type 0 where
   pub setLong : length set ≡ 16
-  pub chosen : Chosen N relations levels (take (at .size) set) (at .size) (at .last)
+  pub chosen : Chosen N relations (take (at .size) set) (at .last)
+  pub levelled : Levelled N level (take (at .size) set) (at .last) by
   pub total : at .total .0 ≡ setTotal N (take (at .size) set)
   pub cost : at .cost ≡ sum (map (λ p. placeAt N p .cost) (take (at .size) set))
   pub hours : at .hours ≡ sum (map (λ p. placeAt N p .hours) (take (at .size) set))
@@ -60,8 +62,8 @@ pub record Standing (N : Network) (relations levels set : List ℕ) (at : Curren
   pub timely : at .hours ≤ N .head .hours
 
 -- the set may get one more place
-pub record Trying (N : Network) (relations levels set : List ℕ) (at : Current) (place : ℕ) : Type 0 where
-  pub standing : Standing N relations levels set at
+pub record Trying (N : Network) (relations level set : List ℕ) (at : Current) (by place : ℕ) : Type 0 where
+  pub standing : Standing N relations level set at by
   pub low : at .last < place
   pub high : place ≤ length (N .places)
   pub few : at .size + 1 ≤ N .head .adds
@@ -74,37 +76,49 @@ pub record Next (N : Network) (set : List ℕ) (at : Current) (place : ℕ) (nex
   pub cost : next .cost ≡ sum (map (λ p. placeAt N p .cost) (take (at .size) set ++ (place ∷ [])))
   pub hours : next .hours ≡ sum (map (λ p. placeAt N p .hours) (take (at .size) set ++ (place ∷ [])))
 
--- a set whose last member is `place` and that may get `more` places: none is left, or none can do better than the best total
-abbrev pub Barren : Network → List ℕ → ℕ → ℕ → ℕ → ℕ → Type 0
-Barren N bounds best total place more = (more ≡ 0) ⊎ ((length (N .places) ≤ place) ⊎ (best + getD bounds (more * 65 + place) 0 ≤ total))
+-- a set that may get `left` of the places from `from` on: none, or the walk is spent, or none can do better than the best total
+abbrev pub Barren : Network → List ℕ → Bool → ℕ → ℕ → ℕ → ℕ → Type 0
+Barren N bounds spent best total from left = (left ≡ 0) ⊎ ((length (N .places) < from) ⊎ ((spent ≡ true) ⊎ (best + getD bounds (left * 65 + from - 1) 0 ≤ total)))
+
+-- some are left, the walk is not spent, and by the bound they may do better
+pub record Promising (N : Network) (bounds : List ℕ) (spent : Bool) (best total from left : ℕ) : Type 0 where
+  pub some : left ≡ 0 → ⊥
+  pub high : from ≤ length (N .places)
+  pub unspent : spent ≡ false
+  pub hope : total < best + getD bounds (left * 65 + from - 1) 0
 
 -- the set may get `left` more of the places from `from` on
-pub record Extending (N : Network) (relations ends sums bounds levels set : List ℕ) (at : Current) (from left : ℕ) : Type 0 where
+pub record Extending (N : Network) (relations ends lists sums bounds level saved set : List ℕ) (at : Current) (from left : ℕ) : Type 0 where
   pub coded : HoldsEnds N ends
+  pub related : HoldsLists relations lists (length (N .places))
   pub behind : HoldsCustomers N sums
   pub table : HoldsBounds N bounds
-  pub standing : Standing N relations levels set at
-  pub long : length levels ≡ 3120
+  pub standing : Standing N relations level set at (at .last)
+  pub levelLong : length level ≡ 195
+  pub savedLong : length saved ≡ 3120
   pub low : at .last < from
   pub high : from ≤ length (N .places) + 1
   pub few : at .size + left ≡ N .head .adds
 
--- what a walk leaves: what it found, the set as it was, and the levels up to the one that it is read from
-pub record Left (N : Network) (f : Found) (size : ℕ) (p : Progress) (levels levels' set set' best' : List ℕ) : Type 0 where
+-- what a walk leaves: what it found, and the set, the level and the rows before the set's own as they were
+pub record Left (N : Network) (f : Found) (size : ℕ) (p : Progress) (level level' saved saved' set set' best' : List ℕ) : Type 0 where
   pub found : foundIn p best' ≡ f
   pub counted : Counted N p
   pub bestLong : length best' ≡ 16
   pub setLong : length set' ≡ 16
   pub setSame : take size set' ≡ take size set
-  pub levelsLong : length levels' ≡ 3120
-  pub levelsSame : take (readTo size) levels' ≡ take (readTo size) levels
+  pub levelSame : level' ≡ level
+  pub savedLong : length saved' ≡ 3120
+  pub savedSame : SameUpTo (size * 195) saved saved'
 
 -- before the walk
-pub record Starting (N : Network) (relations ends sums bounds levels set best : List ℕ) (whole : ℕ) : Type 0 where
+pub record Starting (N : Network) (relations ends lists sums bounds level saved set best : List ℕ) (whole : ℕ) : Type 0 where
   pub tables : Tables N relations ends sums
+  pub related : HoldsLists relations lists (length (N .places))
   pub table : HoldsBounds N bounds
-  pub level : Level N [] 0 1 levels
-  pub long : length levels ≡ 3120
+  pub holds : Level N [] 1 level
+  pub levelLong : length level ≡ 195
+  pub savedLong : length saved ≡ 3120
   pub setLong : length set ≡ 16
   pub bestLong : length best ≡ 16
   pub total : whole ≡ total N

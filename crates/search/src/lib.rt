@@ -1,8 +1,10 @@
-// The search: a walk over sets of places. For each set on the way a level of a buffer has what is known of the later places.
+// The search: a walk over sets of places. A level has what is known of the later places with the set on the way. It changes as the
+// walk goes on to a larger set, and what changed is put back as the walk comes back.
 ghost use mathlib.Core.Path.{_≡_};
-ghost use mathlib.Core.Bool.{false, _&&_};
+ghost use mathlib.Core.Bool.{true, false, _&&_};
+ghost use mathlib.Core.Logic.{_⊎_};
 ghost use mathlib.Core.List.{[], _∷_, _++_, map};
-ghost use Prim.Native.Nat.{_+_, _*_, _-_, _≤_, _<_};
+ghost use Prim.Native.Nat.{_+_, _*_, _≤_, _<_};
 ghost use lib.Dec.{leb};
 ghost use lib.ListN.{length, take};
 ghost use Rattle.model.specs.Sets.{placeNumbers, placeAt, allowed, setTotal, saving};
@@ -17,9 +19,11 @@ ghost use Rattle.tree.specs.Linked.{endCode};
 ghost use Rattle.outage.specs.Held.{HoldsCustomers};
 ghost use Rattle.places.specs.Sets.{nearAt, weightAt, worstAt};
 ghost use Rattle.places.specs.Held.{HoldsEnds, Level};
+ghost use Rattle.places.specs.Lists.{many, Row};
 ghost use Rattle.search.specs.Bounds.{Small, Savings, Column, Bounds};
+ghost use Rattle.search.specs.Changes.{Put, Keeping, Undone};
 ghost use Rattle.search.specs.Chosen.{Later, Entering, Entered, Tables};
-ghost use Rattle.search.specs.Walking.{foundIn, visited, extended, Counted, HoldsBounds, Trying, Next, Barren, Extending, Left, Starting};
+ghost use Rattle.search.specs.Walking.{foundIn, visited, extended, Counted, HoldsBounds, Trying, Next, Barren, Promising, Extending, Left, Starting};
 use amounts::Customers;
 use amounts::Total;
 use amounts::Weight;
@@ -142,35 +146,23 @@ fn within_means(net: &[u64; 5129], cost: u64, hours: u64) -> bool
     cost <= net[5] && hours <= net[6]
 }
 
-// Where the level begins that a set of `size` members is read from: that of the set without its last member, or level 0.
-fn level_before(size: usize) -> usize
-    requires { ⌜ size ≤ 16 ⌝ }
-    ensures { λ r. ⌜ r ≡ (size - 1) * 195 ⌝ }
-{
-    if size == 0 {
-        return 0;
-    }
-    (size - 1) * 195
-}
-
 // The code of the breaker near a place, with the breakers of the set.
 fn near_of(
     net: &[u64; 5129],
     relations: &[u64; 4225],
     ends: &[u64; 65],
-    levels: &[u64; 3120],
+    level: &[u64; 195],
     set: &[u64; 16],
     size: usize,
-    last: usize,
+    by: usize,
     place: usize,
 ) -> u64
-    requires { ⌜ Later (networkIn (now net)) (now relations) (now levels) (take size (now set)) size last place × HoldsEnds (networkIn (now net)) (now ends) ⌝ }
+    requires { ⌜ Later (networkIn (now net)) (now relations) (now level) (take size (now set)) by place × HoldsEnds (networkIn (now net)) (now ends) ⌝ }
     ensures { λ r. ⌜ r ≡ endCode (nearAt (networkIn (now (net .entry))) (take size (now (set .entry))) (endAt (networkIn (now (net .entry))) place)) ⌝ }
 {
-    let at = level_before(size);
-    let near = levels[at + place];
-    if relations[last * 65 + place] == 1 && near == levels[at + last] {
-        return ends[last];
+    let near = level[place];
+    if relations[by * 65 + place] == 1 && near == level[by] {
+        return ends[by];
     }
     near
 }
@@ -179,19 +171,18 @@ fn near_of(
 fn weight_of(
     net: &[u64; 5129],
     relations: &[u64; 4225],
-    levels: &[u64; 3120],
+    level: &[u64; 195],
     set: &[u64; 16],
     size: usize,
-    last: usize,
+    by: usize,
     place: usize,
 ) -> u64
-    requires { ⌜ Later (networkIn (now net)) (now relations) (now levels) (take size (now set)) size last place ⌝ }
+    requires { ⌜ Later (networkIn (now net)) (now relations) (now level) (take size (now set)) by place ⌝ }
     ensures { λ r. ⌜ r ≡ weightAt (networkIn (now (net .entry))) (take size (now (set .entry))) (endAt (networkIn (now (net .entry))) place) ⌝ }
 {
-    let at = level_before(size);
-    let weight = levels[at + 65 + place];
-    if relations[last * 65 + place] == 2 && levels[at + place] == levels[at + last] {
-        return weight - levels[at + 65 + last];
+    let weight = level[65 + place];
+    if relations[by * 65 + place] == 2 && level[place] == level[by] {
+        return weight - level[65 + by];
     }
     weight
 }
@@ -200,23 +191,22 @@ fn weight_of(
 fn worst_of(
     net: &[u64; 5129],
     relations: &[u64; 4225],
-    levels: &[u64; 3120],
+    level: &[u64; 195],
     set: &[u64; 16],
     size: usize,
-    last: usize,
+    by: usize,
     place: usize,
 ) -> u64
-    requires { ⌜ Later (networkIn (now net)) (now relations) (now levels) (take size (now set)) size last place ⌝ }
+    requires { ⌜ Later (networkIn (now net)) (now relations) (now level) (take size (now set)) by place ⌝ }
     ensures { λ r. ⌜ r ≡ worstAt (networkIn (now (net .entry))) (take size (now (set .entry))) (endAt (networkIn (now (net .entry))) place) ⌝ }
 {
-    let at = level_before(size);
-    let worst = levels[at + 130 + place];
-    let relation = relations[last * 65 + place];
+    let worst = level[130 + place];
+    let relation = relations[by * 65 + place];
     if relation == 1 {
         return worst + 1;
     }
     if relation == 2 {
-        let through = levels[at + 130 + last] + 1;
+        let through = level[130 + by] + 1;
         if worst < through {
             return through;
         }
@@ -224,32 +214,90 @@ fn worst_of(
     worst
 }
 
-// Writes the level of the set, of the places from `from` on, if it has none yet.
+// Writes the numbers of a place.
+fn put(level: &mut [u64; 195], place: usize, near: u64, weight: u64, worst: u64)
+    requires { ⌜ (length (now level) ≡ 195) × (place ≤ 64) ⌝ }
+    ensures { λ r. ⌜ Put place near weight worst (now (level .entry)) (now (level .exit)) ⌝ }
+{
+    level[place] = near;
+    level[65 + place] = weight;
+    level[130 + place] = worst;
+}
+
+// Keeps the numbers of a place, from `start` on.
+fn keep(level: &[u64; 195], saved: &mut [u64; 3120], start: usize, place: usize)
+    requires { ⌜ (length (now saved) ≡ 3120) × (start + 195 ≤ 3120) × (place ≤ 64) ⌝ }
+    ensures { λ r. ⌜ Keeping (now (level .entry)) start place (now (saved .entry)) (now (saved .exit)) ⌝ }
+{
+    saved[start + place] = level[place];
+    saved[start + 65 + place] = level[65 + place];
+    saved[start + 130 + place] = level[130 + place];
+}
+
+// Makes the level of the set without its last member the set's own: only the numbers of the places that the member is related to
+// change, and they are kept in row `size`.
 fn enter(
     net: &[u64; 5129],
     relations: &[u64; 4225],
     ends: &[u64; 65],
-    levels: &mut [u64; 3120],
+    lists: &[u64; 4225],
+    level: &mut [u64; 195],
+    saved: &mut [u64; 3120],
     set: &[u64; 16],
     size: usize,
     last: usize,
-    from: usize,
-    entered: bool,
 )
-    requires { ⌜ Entering (networkIn (now net)) (now relations) (now ends) (now levels) (take size (now set)) size last from entered ⌝ }
-    ensures { λ r. ⌜ Entered (networkIn (now (net .entry))) (take size (now (set .entry))) size from (now (levels .entry)) (now (levels .exit)) ⌝ }
+    requires { ⌜ Entering (networkIn (now net)) (now relations) (now ends) (now lists) (now level) (now saved) (take size (now set)) size last ⌝ }
+    ensures { λ r. ⌜ Entered (networkIn (now (net .entry))) (now (lists .entry)) (take size (now (set .entry))) size last (now (level .entry)) (now (level .exit)) (now (saved .entry)) (now (saved .exit)) ⌝ }
 {
-    if entered {
-        return;
+    let start = size * 195;
+    let row = last * 65;
+    for i in 1..lists[row] as usize + 1 {
+        let place = lists[row + i] as usize;
+        let near = near_of(net, relations, ends, level, set, size, last, place);
+        let weight = weight_of(net, relations, level, set, size, last, place);
+        let worst = worst_of(net, relations, level, set, size, last, place);
+        keep(level, saved, start, place);
+        put(level, place, near, weight, worst);
     }
-    let at = level_before(size) + 195;
-    for later in from..buffer::places(net) + 1 {
-        let near = near_of(net, relations, ends, levels, set, size, last, later);
-        let weight = weight_of(net, relations, levels, set, size, last, later);
-        let worst = worst_of(net, relations, levels, set, size, last, later);
-        levels[at + later] = near;
-        levels[at + 65 + later] = weight;
-        levels[at + 130 + later] = worst;
+}
+
+// The level becomes the set's own, if it is still that of the set without its last member, which is then `by`.
+fn enter_once(
+    net: &[u64; 5129],
+    relations: &[u64; 4225],
+    ends: &[u64; 65],
+    lists: &[u64; 4225],
+    level: &mut [u64; 195],
+    saved: &mut [u64; 3120],
+    set: &[u64; 16],
+    size: usize,
+    by: usize,
+)
+    requires { ⌜ ((by ≡ 0 → ⊥) → Entering (networkIn (now net)) (now relations) (now ends) (now lists) (now level) (now saved) (take size (now set)) size by) ⌝ }
+    ensures { λ r. ⌜ ((by ≡ 0) × (now (level .exit) ≡ now (level .entry)) × (now (saved .exit) ≡ now (saved .entry))) ⊎ ((by ≡ 0 → ⊥) × Entered (networkIn (now (net .entry))) (now (lists .entry)) (take size (now (set .entry))) size by (now (level .entry)) (now (level .exit)) (now (saved .entry)) (now (saved .exit))) ⌝ }
+{
+    if by != 0 {
+        enter(net, relations, ends, lists, level, saved, set, size, by);
+    }
+}
+
+// Undoes what entering a set of `size` members changed in the level.
+fn leave(lists: &[u64; 4225], level: &mut [u64; 195], saved: &[u64; 3120], size: usize, last: usize)
+    requires { ⌜ (length (now level) ≡ 195) × (size ≤ 15) × Row (now lists) last (many (now lists) last) 65 ⌝ }
+    ensures { λ r. ⌜ Undone (now (lists .entry)) last (size * 195) (many (now (lists .entry)) last + 1) (now (saved .entry)) (now (level .entry)) (now (level .exit)) ⌝ }
+{
+    let start = size * 195;
+    let row = last * 65;
+    for i in 1..lists[row] as usize + 1 {
+        let place = lists[row + i] as usize;
+        put(
+            level,
+            place,
+            saved[start + place],
+            saved[start + 65 + place],
+            saved[start + 130 + place],
+        );
     }
 }
 
@@ -259,19 +307,19 @@ fn fall(
     relations: &[u64; 4225],
     ends: &[u64; 65],
     sums: &[u64; 768],
-    levels: &[u64; 3120],
+    level: &[u64; 195],
     set: &[u64; 16],
     size: usize,
-    last: usize,
+    by: usize,
     place: usize,
 ) -> Total
-    requires { ⌜ Later (networkIn (now net)) (now relations) (now levels) (take size (now set)) size last place × HoldsEnds (networkIn (now net)) (now ends) × HoldsCustomers (networkIn (now net)) (now sums) ⌝ }
+    requires { ⌜ Later (networkIn (now net)) (now relations) (now level) (take size (now set)) by place × HoldsEnds (networkIn (now net)) (now ends) × HoldsCustomers (networkIn (now net)) (now sums) ⌝ }
     ensures { λ r. ⌜ r .0 + setTotal (networkIn (now (net .entry))) (take size (now (set .entry)) ++ (place ∷ [])) ≡ setTotal (networkIn (now (net .entry))) (take size (now (set .entry))) ⌝ }
 {
-    let near = near_of(net, relations, ends, levels, set, size, last, place) as usize;
+    let near = near_of(net, relations, ends, level, set, size, by, place) as usize;
     let line = buffer::place_line(net, place);
     let spared = sums[(near + 1) / 2 - 1] - sums[line - 1];
-    let weight = weight_of(net, relations, levels, set, size, last, place);
+    let weight = weight_of(net, relations, level, set, size, by, place);
     amounts::times(Weight::new(weight), Customers::new(spared))
 }
 
@@ -281,15 +329,15 @@ pub fn savings_of(
     relations: &[u64; 4225],
     ends: &[u64; 65],
     sums: &[u64; 768],
-    levels: &[u64; 3120],
+    level: &[u64; 195],
     savings: &mut [u64; 64],
 )
-    requires { ⌜ Tables (networkIn (now net)) (now relations) (now ends) (now sums) × Level (networkIn (now net)) [] 0 1 (now levels) × (length (now savings) ≡ 64) ⌝ }
+    requires { ⌜ Tables (networkIn (now net)) (now relations) (now ends) (now sums) × Level (networkIn (now net)) [] 1 (now level) × (length (now savings) ≡ 64) ⌝ }
     ensures { λ r. ⌜ (length (now (savings .exit)) ≡ 64) × (take (length (networkIn (now (net .entry)) .places)) (now (savings .exit)) ≡ map (λ p. saving (networkIn (now (net .entry))) p) (placeNumbers (networkIn (now (net .entry))))) ⌝ }
 {
     let none = [0u64; 16];
     for i in 0..buffer::places(net) {
-        savings[i] = fall(net, relations, ends, sums, levels, &none, 0, 0, i + 1).number();
+        savings[i] = fall(net, relations, ends, sums, level, &none, 0, 0, i + 1).number();
     }
 }
 
@@ -313,29 +361,22 @@ fn hours_with(net: &[u64; 5129], current: Current, place: usize) -> u64
 fn may_get(
     net: &[u64; 5129],
     relations: &[u64; 4225],
-    levels: &[u64; 3120],
+    level: &[u64; 195],
     set: &[u64; 16],
     current: Current,
+    by: usize,
     place: usize,
 ) -> bool
-    requires { ⌜ Trying (networkIn (now net)) (now relations) (now levels) (now set) current place ⌝ }
+    requires { ⌜ Trying (networkIn (now net)) (now relations) (now level) (now set) current by place ⌝ }
     ensures { λ r. ⌜ r ≡ allowed (networkIn (now (net .entry))) (take (current .size) (now (set .entry)) ++ (place ∷ [])) ⌝ }
 {
-    let cost = cost_with(net, current, place);
-    let hours = hours_with(net, current, place);
-    if !within_means(net, cost, hours) {
+    let worst = worst_of(net, relations, level, set, current.size, by, place);
+    if net[3] <= worst {
         return false;
     }
-    let worst = worst_of(
-        net,
-        relations,
-        levels,
-        set,
-        current.size,
-        current.last,
-        place,
-    );
-    worst < net[3]
+    let cost = cost_with(net, current, place);
+    let hours = hours_with(net, current, place);
+    within_means(net, cost, hours)
 }
 
 // The set with one more place.
@@ -344,55 +385,49 @@ fn with_place(
     relations: &[u64; 4225],
     ends: &[u64; 65],
     sums: &[u64; 768],
-    levels: &[u64; 3120],
+    level: &[u64; 195],
     set: &[u64; 16],
     current: Current,
+    by: usize,
     place: usize,
 ) -> Current
-    requires { ⌜ Trying (networkIn (now net)) (now relations) (now levels) (now set) current place × HoldsEnds (networkIn (now net)) (now ends) × HoldsCustomers (networkIn (now net)) (now sums) ⌝ }
+    requires { ⌜ Trying (networkIn (now net)) (now relations) (now level) (now set) current by place × HoldsEnds (networkIn (now net)) (now ends) × HoldsCustomers (networkIn (now net)) (now sums) ⌝ }
     ensures { λ r. ⌜ Next (networkIn (now (net .entry))) (now (set .entry)) current place r ⌝ }
 {
     let size = current.size;
-    let saved = fall(
-        net,
-        relations,
-        ends,
-        sums,
-        levels,
-        set,
-        size,
-        current.last,
-        place,
-    );
+    let spared = fall(net, relations, ends, sums, level, set, size, by, place);
     Current {
         size: size + 1,
         last: place,
-        total: current.total.minus(saved),
+        total: current.total.minus(spared),
         cost: cost_with(net, current, place),
         hours: hours_with(net, current, place),
     }
 }
 
-// Whether a set whose last member is `place` is to be extended: it may get `more` places, some are left, and by the bound they
-// may do better than the best.
+// Whether a set with such a total is to be extended by places from `from` on: it may get `left`, some are left, the walk is not
+// spent, and by the bound they may do better than the best.
 fn goes_on(
     net: &[u64; 5129],
     bounds: &[u64; 1105],
     total: Total,
-    place: usize,
-    more: usize,
+    from: usize,
+    left: usize,
     found: Progress,
 ) -> bool
-    requires { ⌜ Accepted (networkIn (now net)) × HoldsBounds (networkIn (now net)) (now bounds) × Counted (networkIn (now net)) found × (more ≤ 16) ⌝ }
-    ensures { λ r. ⌜ (r ≡ false → Barren (networkIn (now (net .entry))) (now (bounds .entry)) (found .best .0) (total .0) place more) ⌝ }
+    requires { ⌜ Accepted (networkIn (now net)) × HoldsBounds (networkIn (now net)) (now bounds) × Counted (networkIn (now net)) found × (left ≤ 16) × (1 ≤ from) ⌝ }
+    ensures { λ r. ⌜ (r ≡ false → Barren (networkIn (now (net .entry))) (now (bounds .entry)) (found .spent) (found .best .0) (total .0) from left) × (r ≡ true → Promising (networkIn (now (net .entry))) (now (bounds .entry)) (found .spent) (found .best .0) (total .0) from left) ⌝ }
 {
-    if more == 0 {
+    if left == 0 {
         return false;
     }
-    if buffer::places(net) <= place {
+    if buffer::places(net) < from {
         return false;
     }
-    total.number() < found.best.number() + bounds[more * 65 + place]
+    if found.spent {
+        return false;
+    }
+    total.number() < found.best.number() + bounds[left * 65 + from - 1]
 }
 
 // Extends the current set, which may get `left` more places, by each of the places from `from` on in rising order.
@@ -400,9 +435,11 @@ fn extend(
     net: &[u64; 5129],
     relations: &[u64; 4225],
     ends: &[u64; 65],
+    lists: &[u64; 4225],
     sums: &[u64; 768],
     bounds: &[u64; 1105],
-    levels: &mut [u64; 3120],
+    level: &mut [u64; 195],
+    saved: &mut [u64; 3120],
     set: &mut [u64; 16],
     best: &mut [u64; 16],
     current: Current,
@@ -410,46 +447,30 @@ fn extend(
     left: usize,
     progress: Progress,
 ) -> Progress
-    requires { ⌜ Extending (networkIn (now net)) (now relations) (now ends) (now sums) (now bounds) (now levels) (now set) current from left × (length (now best) ≡ 16) × Counted (networkIn (now net)) progress ⌝ }
-    ensures { λ r. ⌜ Left (networkIn (now (net .entry))) (extended (networkIn (now (net .entry))) left (take (current .size) (now (set .entry))) from (foundIn progress (now (best .entry)))) (current .size) r (now (levels .entry)) (now (levels .exit)) (now (set .entry)) (now (set .exit)) (now (best .exit)) ⌝ }
+    requires { ⌜ Extending (networkIn (now net)) (now relations) (now ends) (now lists) (now sums) (now bounds) (now level) (now saved) (now set) current from left × (length (now best) ≡ 16) × Counted (networkIn (now net)) progress ⌝ }
+    ensures { λ r. ⌜ Left (networkIn (now (net .entry))) (extended (networkIn (now (net .entry))) left (take (current .size) (now (set .entry))) from (foundIn progress (now (best .entry)))) (current .size) r (now (level .entry)) (now (level .exit)) (now (saved .entry)) (now (saved .exit)) (now (set .entry)) (now (set .exit)) (now (best .exit)) ⌝ }
 {
-    let mut found = progress;
-    if left == 0 {
-        return found;
-    }
     let size = current.size;
-    let mut entered = size == 0;
-    for place in from..buffer::places(net) + 1 {
-        if found.spent {
-            return found;
-        }
-        if found.best.number() + bounds[left * 65 + place - 1] <= current.total.number() {
-            return found;
-        }
-        if may_get(net, relations, levels, set, current, place) {
-            let next = with_place(net, relations, ends, sums, levels, set, current, place);
+    let mut found = progress;
+    let mut by = current.last;
+    let mut place = from;
+    while goes_on(net, bounds, current.total, place, left, found) {
+        if may_get(net, relations, level, set, current, by, place) {
+            let next = with_place(net, relations, ends, sums, level, set, current, by, place);
             set[size] = place as u64;
             found = visit(net, set, size + 1, next.total, best, found);
-            if goes_on(net, bounds, next.total, place, left - 1, found) {
-                enter(
-                    net,
-                    relations,
-                    ends,
-                    levels,
-                    set,
-                    size,
-                    current.last,
-                    place,
-                    entered,
-                );
-                entered = true;
+            if goes_on(net, bounds, next.total, place + 1, left - 1, found) {
+                enter_once(net, relations, ends, lists, level, saved, set, size, by);
+                by = 0;
                 found = extend(
                     net,
                     relations,
                     ends,
+                    lists,
                     sums,
                     bounds,
-                    levels,
+                    level,
+                    saved,
                     set,
                     best,
                     next,
@@ -459,6 +480,10 @@ fn extend(
                 );
             }
         }
+        place += 1;
+    }
+    if by != current.last {
+        leave(lists, level, saved, size, current.last);
     }
     found
 }
@@ -468,14 +493,16 @@ pub fn walk(
     net: &[u64; 5129],
     relations: &[u64; 4225],
     ends: &[u64; 65],
+    lists: &[u64; 4225],
     sums: &[u64; 768],
     bounds: &[u64; 1105],
-    levels: &mut [u64; 3120],
+    level: &mut [u64; 195],
+    saved: &mut [u64; 3120],
     set: &mut [u64; 16],
     best: &mut [u64; 16],
     total: Total,
 ) -> Progress
-    requires { ⌜ Starting (networkIn (now net)) (now relations) (now ends) (now sums) (now bounds) (now levels) (now set) (now best) (total .0) ⌝ }
+    requires { ⌜ Starting (networkIn (now net)) (now relations) (now ends) (now lists) (now sums) (now bounds) (now level) (now saved) (now set) (now best) (total .0) ⌝ }
     ensures { λ r. ⌜ (foundIn r (now (best .exit)) ≡ search (networkIn (now (net .entry)))) × (length (now (best .exit)) ≡ 16) × (r .count ≤ 16) ⌝ }
 {
     let start = Progress {
@@ -489,9 +516,11 @@ pub fn walk(
         net,
         relations,
         ends,
+        lists,
         sums,
         bounds,
-        levels,
+        level,
+        saved,
         set,
         best,
         Current {

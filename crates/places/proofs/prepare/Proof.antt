@@ -1,3 +1,6 @@
+use mathlib.Core.Path.{subst}
+use native.Mathlib.Omega.{arith}
+use Rattle.places.specs.Lists.{HoldsLists}
 use borrow.Author.Needs.{needs}
 use Rattle.places.proofs.prepare.Statement.{statement}
 use Rattle.places.proofs.prepare.Tie as tie
@@ -29,13 +32,21 @@ fill-lines-requires c κs = search needs
 fill-relations-requires : tie.Need-fill-relations-requires
 fill-relations-requires c κs = search needs
 
+places-requires : tie.Need-places-requires
+places-requires c κs = search needs
+
+fill-lists-requires : tie.Need-fill-lists-requires
+fill-lists-requires c κs = omega (arith, c .before .places .ensures, c .before .before .before .before .before .before .before .before .before .before .before .before .before .before .before .before .before .before .before .before .before .before .pre .0 .read .placeCount)
+
 start-level-requires : tie.Need-start-level-requires
 start-level-requires c κs =
-    let s = c .before .before .before .before .before .before .before .before .before .before .before .before .before .before .before .before .before .before .before .before .before .before .before .before .before .before in
-    (s .pre .0, s .pre .1 .nears, c .before .before .before .before .before .before .before .before .before .before .before .before .before .before .before .before .before .fill-places .ensures, c .before .before .before .before .before .before .before .before .before .before .before .fill-lines .ensures, c .before .before .before .before .before .before .before .fill-relations .ensures .0)
+    let s = c .before .before .before .before .before .before .before .before .before .before .before .before .before .before .before .before .before .before .before .before .before .before .before .before .before .before .before .before .before .before in
+    (s .pre .0, s .pre .1 .nears, c .before .before .before .before .before .before .before .before .before .before .before .before .before .before .before .before .before .before .before .before .before .fill-places .ensures, c .before .before .before .before .before .before .before .before .before .before .before .before .before .before .before .fill-lines .ensures, c .before .before .before .before .before .before .before .before .before .before .before .fill-relations .ensures .0)
 
 returns : tie.Need-returns
-returns c = (c .before .before .before .before .before .before .before .before .fill-relations .ensures .0, c .before .before .before .before .before .before .before .before .before .before .before .before .before .before .before .before .before .before .before .before .fill-ends .ensures .0, c .start-level .ensures .0, c .start-level .ensures .1)
+returns c =
+    let p = c .before .before .before .before .before .before .before .before .before .before .places in
+    (c .before .before .before .before .before .before .before .before .before .before .before .before .fill-relations .ensures .0, subst (HoldsLists (c .before .before .before .before .before .before .before .before .before .before .before .before .fill-relations .last .1 .1 .1 .1 .1 .0) (c .before .before .before .before .before .before .before .before .fill-lists .last .1 .1 .0)) (p .ensures) (c .before .before .before .before .before .before .before .before .fill-lists .ensures), c .before .before .before .before .before .before .before .before .before .before .before .before .before .before .before .before .before .before .before .before .before .before .before .before .fill-ends .ensures .0, c .start-level .ensures .0, c .start-level .ensures .1)
 
 pub prepare-spec : {M : Type 1} → statement M
 prepare-spec =
@@ -50,5 +61,7 @@ prepare-spec =
     fill-places-requires
     fill-lines-requires
     fill-relations-requires
+    places-requires
+    fill-lists-requires
     start-level-requires
     returns)

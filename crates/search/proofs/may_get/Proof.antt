@@ -1,11 +1,19 @@
-use mathlib.Core.Path.{sym, ap, _∙_}
-use lib.Dec.{ltb}
-use borrow.Author.Tests.{not-true, not-false}
+use mathlib.Core.Path.{_∙_}
+use native.Mathlib.Omega.{arith}
 use Rattle.search.proofs.Heads.{series-at}
-use Rattle.search.proofs.Trying.{costly, in-series}
+use Rattle.search.proofs.Trying.{later, too-many, few-enough}
 use borrow.Author.Needs.{needs}
 use Rattle.search.proofs.may_get.Statement.{statement}
 use Rattle.search.proofs.may_get.Tie as tie
+
+worst-of-requires : tie.Need-worst-of-requires
+worst-of-requires c κs = later (c .pre)
+
+element-copy-out-if1 : tie.Need-element-copy-out-if1
+element-copy-out-if1 c = search needs
+
+returns : tie.Need-returns
+returns c = too-many (c .before .before .before .pre) (c .before .before .worst-of .ensures) (omega (arith, series-at (c .before .before .before .args .net .now), c .if1 .taken))
 
 cost-with-requires : tie.Need-cost-with-requires
 cost-with-requires c κs = search needs
@@ -16,30 +24,17 @@ hours-with-requires c κs = search needs
 within-means-requires : tie.Need-within-means-requires
 within-means-requires c κs = search needs
 
-returns : tie.Need-returns
-returns c =
-    costly (c .before .before .before .before .pre) (c .before .before .before .cost-with .ensures) (c .before .before .hours-with .ensures) (sym (c .before .within-means .ensures) ∙ not-true (c .before .within-means .result) (c .if1 .taken))
-
-worst-of-requires : tie.Need-worst-of-requires
-worst-of-requires c κs = search needs
-
-element-copy-out-result : tie.Need-element-copy-out-result
-element-copy-out-result c = search needs
-
 returns-2 : tie.Need-returns-2
-returns-2 c =
-    let d = c .before .before .before .before .before .before in
-    ap (ltb (c .before .worst-of .result)) (sym (series-at (d .args .net .now)))
-    ∙ in-series (d .pre) (c .before .before .before .before .before .cost-with .ensures) (c .before .before .before .before .hours-with .ensures) (sym (c .before .before .before .within-means .ensures) ∙ not-false (c .before .before .before .within-means .result) (c .before .before .if1 .left)) (c .before .worst-of .ensures)
+returns-2 c = c .within-means .ensures ∙ few-enough (c .before .before .before .before .before .before .pre) (c .before .before .before .before .before .worst-of .ensures) (c .before .before .cost-with .ensures) (c .before .hours-with .ensures) (omega (arith, series-at (c .before .before .before .before .before .before .args .net .now), c .before .before .before .if1 .left))
 
 pub may-get-spec : {M : Type 1} → statement M
 may-get-spec =
     tie.close
     (tie.spec
+    worst-of-requires
+    element-copy-out-if1
+    returns
     cost-with-requires
     hours-with-requires
     within-means-requires
-    returns
-    worst-of-requires
-    element-copy-out-result
     returns-2)

@@ -5,12 +5,6 @@ use borrow.Author.Needs.{needs}
 use Rattle.search.proofs.near_of.Statement.{statement}
 use Rattle.search.proofs.near_of.Tie as tie
 
-level-before-requires : tie.Need-level-before-requires
-level-before-requires c κs = search needs
-
-add-near : tie.Need-add-near
-add-near c = search needs
-
 mul-near : tie.Need-mul-near
 mul-near c = search needs
 
@@ -29,9 +23,6 @@ mul-if1-2 c = search needs
 element-copy-out-if1 : tie.Need-element-copy-out-if1
 element-copy-out-if1 c = search needs
 
-add-if2 : tie.Need-add-if2
-add-if2 c = search needs
-
 mul-if2 : tie.Need-mul-if2
 mul-if2 c = search needs
 
@@ -46,25 +37,22 @@ element-copy-out-result c = search needs
 
 returns : tie.Need-returns
 returns c =
-    let d = c .before .before .before .before .before .before .before in
-    near-taken (d .pre .0) (c .before .before .before .before .before .before .level-before .ensures) (d .args .ends .now) (d .pre .1) (c .before .before .before .if1 .taken) (eqb-true _ _ (c .before .if2 .taken))
+    let d = c .before .before .before .before .before .before in
+    near-taken (d .pre .0) (d .args .ends .now) (d .pre .1) (c .before .before .before .if1 .taken) (eqb-true _ _ (c .before .if2 .taken))
 
 returns-2 : tie.Need-returns-2
-returns-2 c = near-kept (c .before .before .before .before .pre .0) (c .before .before .before .level-before .ensures) (⊎-elim (λ w r q. eqb-false _ _ (w .2 .left) q) (λ w r q. w .left r) (c .if1 .came))
+returns-2 c = near-kept (c .before .before .before .pre .0) (⊎-elim (λ w r q. eqb-false _ _ (w .2 .left) q) (λ w r q. w .left r) (c .if1 .came))
 
 pub near-of-spec : {M : Type 1} → statement M
 near-of-spec =
     tie.close
     (tie.spec
-    level-before-requires
-    add-near
     mul-near
     element-copy-out-near
     mul-if1
     add-if1
     mul-if1-2
     element-copy-out-if1
-    add-if2
     mul-if2
     element-copy-out-if2
     mul-result

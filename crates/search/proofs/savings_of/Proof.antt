@@ -2,15 +2,15 @@ use Prim.Native.Nat.{_+_, _-_}
 use mathlib.Core.Path.{_∙_}
 use native.Mathlib.Omega.{arith}
 use Rattle.buffer.specs.Buffer.{networkIn}
-use Rattle.search.proofs.Saving.{Saved, chosen-none, saving-is, saved-none, next-later, saved-more, saved-all}
+use Rattle.search.proofs.Saving.{Saved, saving-is, saved-none, next-later, saved-more, saved-all}
 use Rattle.search.proofs.savings_of.Statement.{statement}
 use Rattle.search.proofs.savings_of.Tie as tie
 
 abbrev Inv-loop : tie.InvT-loop
-Inv-loop net relations ends sums levels savings₀ none i₀ i-end savings i = Saved (networkIn net) i i-end savings
+Inv-loop net relations ends sums level savings₀ none i₀ i-end savings i = Saved (networkIn net) i i-end savings
 
 abbrev μ-loop : tie.MeasureT-loop
-μ-loop net relations ends sums levels savings₀ none i₀ i-end savings i = i-end - i
+μ-loop net relations ends sums level savings₀ none i₀ i-end savings i = i-end - i
 
 places-requires : tie.Need-places-requires Inv-loop μ-loop
 places-requires c κs = tt
@@ -26,7 +26,7 @@ fall-requires c κs =
     let d = c .before .before .before .before in
     let t = d .pre .0 in
     let N = networkIn (d .args .net .now) in
-    (next-later N (c .before .before .loop .inv) (c .before .loop-test .taken) (d .args .relations .now) (d .args .levels .now) (chosen-none N (d .args .relations .now) (d .args .levels .now) (t .accepted) (t .related) (d .pre .1)), t .coded, t .behind)
+    (next-later N (c .before .before .loop .inv) (c .before .loop-test .taken) (d .args .relations .now) (d .args .level .now) (t .accepted) (t .related) (d .pre .1), t .coded, t .behind)
 
 number-requires : tie.Need-number-requires Inv-loop μ-loop
 number-requires c κs = tt

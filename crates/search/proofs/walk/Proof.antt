@@ -18,13 +18,13 @@ element-copy-out-extend c = search needs
 
 extend-requires : tie.Need-extend-requires
 extend-requires c κs =
-    let d = c .before .before .before .before .before .before .before in
-    (extending-none (d .args .total) (d .pre) (getD (d .args .net .now) 4 0) (adds-at (d .args .net .now)), c .before .before .before .before .visit .ensures .0, c .before .before .before .before .visit .ensures .1)
+    let d = c .before .before .before .before .before .before .before .before in
+    (extending-none (d .args .total) (d .pre) (getD (d .args .net .now) 4 0) (adds-at (d .args .net .now)), c .before .before .before .before .before .visit .ensures .0, c .before .before .before .before .before .visit .ensures .1)
 
 returns : tie.Need-returns
 returns c =
-    let d = c .before .before .before .before .before .before .before .before in
-    let v = c .before .before .before .before .before .visit in
+    let d = c .before .before .before .before .before .before .before .before .before in
+    let v = c .before .before .before .before .before .before .visit in
     let l = c .extend .ensures in
     (l .found ∙ search-is (d .args .total) (d .pre) (getD (d .args .net .now) 4 0) (adds-at (d .args .net .now)) (foundIn (v .result) (v .last .1 .1 .1 .1 .0)) (v .ensures .2), l .bestLong, l .counted .count)
 

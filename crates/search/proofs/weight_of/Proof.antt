@@ -6,14 +6,8 @@ use borrow.Author.Needs.{needs}
 use Rattle.search.proofs.weight_of.Statement.{statement}
 use Rattle.search.proofs.weight_of.Tie as tie
 
-level-before-requires : tie.Need-level-before-requires
-level-before-requires c κs = search needs
-
 add-weight : tie.Need-add-weight
 add-weight c = search needs
-
-add-weight-2 : tie.Need-add-weight-2
-add-weight-2 c = search needs
 
 mul-weight : tie.Need-mul-weight
 mul-weight c = search needs
@@ -33,17 +27,11 @@ mul-if1-2 c = search needs
 element-copy-out-if1 : tie.Need-element-copy-out-if1
 element-copy-out-if1 c = search needs
 
-add-if2 : tie.Need-add-if2
-add-if2 c = search needs
-
 mul-if2 : tie.Need-mul-if2
 mul-if2 c = search needs
 
 element-copy-out-if2 : tie.Need-element-copy-out-if2
 element-copy-out-if2 c = search needs
-
-add-if2-2 : tie.Need-add-if2-2
-add-if2-2 c = search needs
 
 mul-if2-2 : tie.Need-mul-if2-2
 mul-if2-2 c = search needs
@@ -54,9 +42,6 @@ element-copy-out-if2-2 c = search needs
 add-result : tie.Need-add-result
 add-result c = search needs
 
-add-result-2 : tie.Need-add-result-2
-add-result-2 c = search needs
-
 mul-result : tie.Need-mul-result
 mul-result c = search needs
 
@@ -64,35 +49,30 @@ element-copy-out-result : tie.Need-element-copy-out-result
 element-copy-out-result c = search needs
 
 sub-result : tie.Need-sub-result
-sub-result c = omega (arith, weight-taken (c .before .before .before .before .before .before .before .before .pre) (c .before .before .before .before .before .before .before .level-before .ensures) (c .before .before .before .before .if1 .taken) (eqb-true _ _ (c .before .if2 .taken)))
+sub-result c = omega (arith, weight-taken (c .before .before .before .before .before .before .before .pre) (c .before .before .before .before .if1 .taken) (eqb-true _ _ (c .before .if2 .taken)))
 
 returns : tie.Need-returns
-returns c = omega (arith, weight-taken (c .before .before .before .before .before .before .before .before .pre) (c .before .before .before .before .before .before .before .level-before .ensures) (c .before .before .before .before .if1 .taken) (eqb-true _ _ (c .before .if2 .taken)))
+returns c = omega (arith, weight-taken (c .before .before .before .before .before .before .before .pre) (c .before .before .before .before .if1 .taken) (eqb-true _ _ (c .before .if2 .taken)))
 
 returns-2 : tie.Need-returns-2
-returns-2 c = weight-kept (c .before .before .before .before .pre) (c .before .before .before .level-before .ensures) (⊎-elim (λ w r q. eqb-false _ _ (w .3 .left) q) (λ w r q. w .left r) (c .if1 .came))
+returns-2 c = weight-kept (c .before .before .before .pre) (⊎-elim (λ w r q. eqb-false _ _ (w .3 .left) q) (λ w r q. w .left r) (c .if1 .came))
 
 pub weight-of-spec : {M : Type 1} → statement M
 weight-of-spec =
     tie.close
     (tie.spec
-    level-before-requires
     add-weight
-    add-weight-2
     mul-weight
     element-copy-out-weight
     mul-if1
     add-if1
     mul-if1-2
     element-copy-out-if1
-    add-if2
     mul-if2
     element-copy-out-if2
-    add-if2-2
     mul-if2-2
     element-copy-out-if2-2
     add-result
-    add-result-2
     mul-result
     element-copy-out-result
     sub-result

@@ -1,15 +1,15 @@
 use mathlib.Core.Path.{refl}
 use native.Mathlib.Omega.{arith}
-use Rattle.search.proofs.Trying.{cost-with, hours-with}
+use Rattle.search.proofs.Trying.{later, cost-with, hours-with}
 use borrow.Author.Needs.{needs}
 use Rattle.search.proofs.with_place.Statement.{statement}
 use Rattle.search.proofs.with_place.Tie as tie
 
 fall-requires : tie.Need-fall-requires
-fall-requires c κs = search needs
+fall-requires c κs = (later (c .pre .0), c .pre .1, c .pre .2)
 
-add-t11 : tie.Need-add-t11
-add-t11 c = search needs
+add-t12 : tie.Need-add-t12
+add-t12 c = search needs
 
 minus-requires : tie.Need-minus-requires
 minus-requires c κs = search needs
@@ -34,4 +34,4 @@ returns c =
 pub with-place-spec : {M : Type 1} → statement M
 with-place-spec =
     tie.close
-    (tie.spec fall-requires add-t11 minus-requires cost-with-requires hours-with-requires returns)
+    (tie.spec fall-requires add-t12 minus-requires cost-with-requires hours-with-requires returns)

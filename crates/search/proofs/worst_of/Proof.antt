@@ -4,14 +4,8 @@ use borrow.Author.Needs.{needs}
 use Rattle.search.proofs.worst_of.Statement.{statement}
 use Rattle.search.proofs.worst_of.Tie as tie
 
-level-before-requires : tie.Need-level-before-requires
-level-before-requires c κs = search needs
-
 add-worst : tie.Need-add-worst
 add-worst c = search needs
-
-add-worst-2 : tie.Need-add-worst-2
-add-worst-2 c = search needs
 
 mul-worst : tie.Need-mul-worst
 mul-worst c = search needs
@@ -32,16 +26,13 @@ element-copy-out-relation : tie.Need-element-copy-out-relation
 element-copy-out-relation c = search needs
 
 add-result : tie.Need-add-result
-add-result c = omega (arith, raised (c .before .before .before .before .pre) (c .before .before .before .level-before .ensures) (c .if1 .taken))
+add-result c = omega (arith, raised (c .before .before .before .pre) (c .if1 .taken))
 
 returns : tie.Need-returns
-returns c = raised (c .before .before .before .before .pre) (c .before .before .before .level-before .ensures) (c .if1 .taken) .0
+returns c = raised (c .before .before .before .pre) (c .if1 .taken) .0
 
 add-through : tie.Need-add-through
 add-through c = search needs
-
-add-through-2 : tie.Need-add-through-2
-add-through-2 c = search needs
 
 mul-through : tie.Need-mul-through
 mul-through c = search needs
@@ -49,25 +40,23 @@ mul-through c = search needs
 element-copy-out-through : tie.Need-element-copy-out-through
 element-copy-out-through c = search needs
 
-add-through-3 : tie.Need-add-through-3
-add-through-3 c = omega (arith, highest (c .before .before .before .before .before .before .pre) (c .before .before .before .before .before .level-before .ensures) (c .before .if2 .taken))
+add-through-2 : tie.Need-add-through-2
+add-through-2 c = omega (arith, highest (c .before .before .before .before .before .pre) (c .before .if2 .taken))
 
 returns-2 : tie.Need-returns-2
-returns-2 c = omega (arith, highest (c .before .before .before .before .before .before .before .pre) (c .before .before .before .before .before .before .level-before .ensures) (c .before .before .if2 .taken) .0, c .if3 .taken)
+returns-2 c = omega (arith, highest (c .before .before .before .before .before .before .pre) (c .before .before .if2 .taken) .0, c .if3 .taken)
 
 returns-3 : tie.Need-returns-3
-returns-3 c = omega (arith, highest (c .before .before .before .before .before .before .before .pre) (c .before .before .before .before .before .before .level-before .ensures) (c .before .before .if2 .taken) .0, c .if3 .left)
+returns-3 c = omega (arith, highest (c .before .before .before .before .before .before .pre) (c .before .before .if2 .taken) .0, c .if3 .left)
 
 returns-4 : tie.Need-returns-4
-returns-4 c = worst-kept (c .before .before .before .before .before .pre) (c .before .before .before .before .level-before .ensures) (c .before .if1 .left) (c .if2 .left)
+returns-4 c = worst-kept (c .before .before .before .before .pre) (c .before .if1 .left) (c .if2 .left)
 
 pub worst-of-spec : {M : Type 1} → statement M
 worst-of-spec =
     tie.close
     (tie.spec
-    level-before-requires
     add-worst
-    add-worst-2
     mul-worst
     element-copy-out-worst
     mul-relation
@@ -77,10 +66,9 @@ worst-of-spec =
     add-result
     returns
     add-through
-    add-through-2
     mul-through
     element-copy-out-through
-    add-through-3
+    add-through-2
     returns-2
     returns-3
     returns-4)

@@ -10,11 +10,11 @@ use Rattle.places.proofs.starts.fill_nears.Statement.{statement}
 use Rattle.places.proofs.starts.fill_nears.Tie as tie
 
 abbrev Inv-loop : tie.InvT-loop
-Inv-loop net trips levels₀ p₀ p-end levels p =
-    (p-end ≡ length (networkIn net .places) + 1) × (1 ≤ p) × (p ≤ p-end) × (length levels ≡ length levels₀) × Filled (nearCode (networkIn net)) (λ q. q) levels p
+Inv-loop net trips level₀ p₀ p-end level p =
+    (p-end ≡ length (networkIn net .places) + 1) × (1 ≤ p) × (p ≤ p-end) × (length level ≡ length level₀) × Filled (nearCode (networkIn net)) (λ q. q) level p
 
 abbrev μ-loop : tie.MeasureT-loop
-μ-loop net trips levels₀ p₀ p-end levels p = p-end - p
+μ-loop net trips level₀ p₀ p-end level p = p-end - p
 
 places-requires : tie.Need-places-requires Inv-loop μ-loop
 places-requires c κs = search needs
@@ -28,29 +28,29 @@ loop-holds c = search needs
 place-line-requires : tie.Need-place-line-requires Inv-loop μ-loop
 place-line-requires c κs = search needs
 
-sub-levels : tie.Need-sub-levels Inv-loop μ-loop
-sub-levels c =
+sub-level : tie.Need-sub-level Inv-loop μ-loop
+sub-level c =
     let s = c .before .before .before .before .before in
     let N = networkIn (s .args .net .now) in
     omega (arith, place-line N (s .pre .0) (c .before .before .loop .p) (omega arith) (omega arith), read-fits N (s .pre .0 .read) .lines)
 
-mul-levels : tie.Need-mul-levels Inv-loop μ-loop
-mul-levels c =
+mul-level : tie.Need-mul-level Inv-loop μ-loop
+mul-level c =
     let s = c .before .before .before .before .before in
     let N = networkIn (s .args .net .now) in
     omega (arith, place-line N (s .pre .0) (c .before .before .loop .p) (omega arith) (omega arith), read-fits N (s .pre .0 .read) .lines)
 
-element-copy-out-levels : tie.Need-element-copy-out-levels Inv-loop μ-loop
-element-copy-out-levels c =
+element-copy-out-level : tie.Need-element-copy-out-level Inv-loop μ-loop
+element-copy-out-level c =
     let s = c .before .before .before .before .before in
     let N = networkIn (s .args .net .now) in
     omega (arith, place-line N (s .pre .0) (c .before .before .loop .p) (omega arith) (omega arith), read-fits N (s .pre .0 .read) .lines)
 
-mul-levels-2 : tie.Need-mul-levels-2 Inv-loop μ-loop
-mul-levels-2 c = search needs
+mul-level-2 : tie.Need-mul-level-2 Inv-loop μ-loop
+mul-level-2 c = search needs
 
-slice-write-levels : tie.Need-slice-write-levels Inv-loop μ-loop
-slice-write-levels c = search needs
+slice-write-level : tie.Need-slice-write-level Inv-loop μ-loop
+slice-write-level c = search needs
 
 add-p : tie.Need-add-p Inv-loop μ-loop
 add-p c = search needs
@@ -64,7 +64,7 @@ loop-again c =
     let h = c .before .before .before .loop in
     let N = networkIn (s .args .net .now) in
     let e = trip-near N (s .pre .0) (s .args .trips .now) (s .pre .1) (h .p) (c .before .place-line .result) (omega arith) (omega arith) (c .before .place-line .ensures) in
-    (h .inv .0, omega arith, omega arith, simp length-set (h .inv .3), filled-more (nearCode N) (λ q. q) (h .levels) (h .p) _ (omega arith) (λ q e. e) e (h .inv .4))
+    (h .inv .0, omega arith, omega arith, simp length-set (h .inv .3), filled-more (nearCode N) (λ q. q) (h .level) (h .p) _ (omega arith) (λ q e. e) e (h .inv .4))
 
 same-length : tie.Need-same-length Inv-loop μ-loop
 same-length c = search needs
@@ -82,11 +82,11 @@ fill-nears-spec =
     add-p-end
     loop-holds
     place-line-requires
-    sub-levels
-    mul-levels
-    element-copy-out-levels
-    mul-levels-2
-    slice-write-levels
+    sub-level
+    mul-level
+    element-copy-out-level
+    mul-level-2
+    slice-write-level
     add-p
     loop-less
     loop-again
