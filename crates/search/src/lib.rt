@@ -430,6 +430,21 @@ fn goes_on(
     total.number() < found.best.number() + bounds[left * 65 + from - 1]
 }
 
+// Whether a set whose last member is `place` is to be extended, by `left` more places.
+fn goes_deeper(
+    net: &[u64; 5129],
+    bounds: &[u64; 1105],
+    total: Total,
+    place: usize,
+    left: usize,
+    found: Progress,
+) -> bool
+    requires { ⌜ Accepted (networkIn (now net)) × HoldsBounds (networkIn (now net)) (now bounds) × Counted (networkIn (now net)) found × (left ≤ 16) × (place ≤ 64) ⌝ }
+    ensures { λ r. ⌜ (r ≡ false → Barren (networkIn (now (net .entry))) (now (bounds .entry)) (found .spent) (found .best .0) (total .0) (place + 1) left) ⌝ }
+{
+    goes_on(net, bounds, total, place + 1, left, found)
+}
+
 // Extends the current set, which may get `left` more places, by each of the places from `from` on in rising order.
 fn extend(
     net: &[u64; 5129],
@@ -459,7 +474,7 @@ fn extend(
             let next = with_place(net, relations, ends, sums, level, set, current, by, place);
             set[size] = place as u64;
             found = visit(net, set, size + 1, next.total, best, found);
-            if goes_on(net, bounds, next.total, place + 1, left - 1, found) {
+            if goes_deeper(net, bounds, next.total, place, left - 1, found) {
                 enter_once(net, relations, ends, lists, level, saved, set, size, by);
                 by = 0;
                 found = extend(

@@ -14,6 +14,7 @@ use Rattle.search.proofs.extend.Reads as extend
 use Rattle.search.proofs.extend.Kinds as extend-kinds
 use Rattle.search.proofs.+extend.Lts-extend as extend-lts
 use Rattle.search.proofs.enter_once.Reads as enter-once-reads
+use Rattle.search.proofs.goes_deeper.Reads as goes-deeper-reads
 use Rattle.search.proofs.goes_on.Reads as goes-on-reads
 use Rattle.search.proofs.leave.Reads as leave-reads
 use Rattle.search.proofs.may_get.Reads as may-get-reads
@@ -33,7 +34,7 @@ extend-below t = and 10 extend-kinds.ps (falls 10 extend-kinds.ps _<_ μ-extend 
 
 -- what the functions that it calls ask and give
 abbrev extend-calls : ℕ → extend-lts.Claims
-extend-calls t = (goes-on-reads.Asked, goes-on-reads.Learnt, may-get-reads.Asked, may-get-reads.Learnt, with-place-reads.Asked, with-place-reads.Learnt, visit-reads.Asked, visit-reads.Learnt, enter-once-reads.Asked, enter-once-reads.Learnt, extend-below t, extend.Post, leave-reads.Asked, leave-reads.Learnt)
+extend-calls t = (goes-on-reads.Asked, goes-on-reads.Learnt, may-get-reads.Asked, may-get-reads.Learnt, with-place-reads.Asked, with-place-reads.Learnt, visit-reads.Asked, visit-reads.Learnt, goes-deeper-reads.Asked, goes-deeper-reads.Learnt, enter-once-reads.Asked, enter-once-reads.Learnt, extend-below t, extend.Post, leave-reads.Asked, leave-reads.Learnt)
 
 abbrev extend-Inv-loop : extend-lts.InvT-loop
 extend-Inv-loop net relations ends lists sums bounds level₀ saved₀ set₀ best₀ current from left size found₀ by₀ place₀ level saved set best found by place =
@@ -75,16 +76,13 @@ extend-visit-requires t c κs =
     let h = c .before .before .before .before .before .before .before .before .before .before .goes-on .ensures .1 (c .before .before .before .before .before .before .before .before .before .if1 .taken) in
     (set⁺-long x g h, g .bestLong, omega (arith, room x g h), c .before .before .with-place .ensures .total ∙ ap (setTotal (networkIn (c .before .before .before .before .before .before .before .before .before .before .before .before .args .net .now))) (sym (set⁺-is x g h)), g .counted)
 
-extend-add-goes-on : (t : ℕ) → extend-lts.Need-add-goes-on (extend-calls t) (extend-at t) extend.Post extend-Inv-loop extend-μ-loop
-extend-add-goes-on t c = omega (arith, places-few (c .before .before .before .before .before .before .before .before .before .before .before .before .before .pre .1 .0), c .before .before .before .before .before .before .before .before .before .before .before .before .loop .inv .within)
+extend-sub-goes-deeper : (t : ℕ) → extend-lts.Need-sub-goes-deeper (extend-calls t) (extend-at t) extend.Post extend-Inv-loop extend-μ-loop
+extend-sub-goes-deeper t c = some (c .before .before .before .before .before .before .before .before .before .before .before .before .before .pre .1 .0) (c .before .before .before .before .before .before .before .before .before .before .before .before .loop .inv) (c .before .before .before .before .before .before .before .before .before .before .before .goes-on .ensures .1 (c .before .before .before .before .before .before .before .before .before .before .if1 .taken))
 
-extend-sub-goes-on : (t : ℕ) → extend-lts.Need-sub-goes-on (extend-calls t) (extend-at t) extend.Post extend-Inv-loop extend-μ-loop
-extend-sub-goes-on t c = some (c .before .before .before .before .before .before .before .before .before .before .before .before .before .pre .1 .0) (c .before .before .before .before .before .before .before .before .before .before .before .before .loop .inv) (c .before .before .before .before .before .before .before .before .before .before .before .goes-on .ensures .1 (c .before .before .before .before .before .before .before .before .before .before .if1 .taken))
-
-extend-goes-on-requires-2 : (t : ℕ) → extend-lts.Need-goes-on-requires-2 (extend-calls t) (extend-at t) extend.Post extend-Inv-loop extend-μ-loop
-extend-goes-on-requires-2 t c κs =
+extend-goes-deeper-requires : (t : ℕ) → extend-lts.Need-goes-deeper-requires (extend-calls t) (extend-at t) extend.Post extend-Inv-loop extend-μ-loop
+extend-goes-deeper-requires t c κs =
     let x = c .before .before .before .before .before .before .before .before .before .before .before .before .before .pre .1 .0 in
-    (x .standing .chosen .accepted, x .table, c .visit .ensures .1, omega (arith, few x), omega arith)
+    (x .standing .chosen .accepted, x .table, c .visit .ensures .1, omega (arith, few x), omega (arith, places-few x, c .before .before .before .before .before .before .before .before .before .before .before .goes-on .ensures .1 (c .before .before .before .before .before .before .before .before .before .before .if1 .taken) .high))
 
 extend-enter-once-requires : (t : ℕ) → extend-lts.Need-enter-once-requires (extend-calls t) (extend-at t) extend.Post extend-Inv-loop extend-μ-loop
 extend-enter-once-requires t c κs =
@@ -121,7 +119,7 @@ extend-loop-again t c =
     (λ w. rw (w .18, w .19, w .20, w .21, w .22, w .23) (on-extended x g h (m ∙ w .0 .taken) (w .3 .ensures) (w .6 .result) (w .6 .last .1 .1 .1 .1 .0) (w .6 .ensures .0) (w .6 .ensures .1) (w .6 .ensures .2) (w .12 .ensures)
     (w .17 .result) (w .17 .last .1 .1 .1 .1 .1 .1 .0) (w .17 .last .1 .1 .1 .1 .1 .1 .1 .0) (w .17 .last .1 .1 .1 .1 .1 .1 .1 .1 .0) (w .17 .last .1 .1 .1 .1 .1 .1 .1 .1 .1 .0) (w .17 .ensures)))
     (λ y. ⊎-elim
-    (λ w. rw (w .9, w .10, w .11, w .12, w .13, w .14) (on-barren x g h (m ∙ w .0 .taken) (w .3 .ensures) (w .6 .result) (w .6 .last .1 .1 .1 .1 .0) (w .6 .ensures .0) (w .6 .ensures .1) (w .6 .ensures .2) (w .7 .ensures .0 (w .8 .left))))
+    (λ w. rw (w .9, w .10, w .11, w .12, w .13, w .14) (on-barren x g h (m ∙ w .0 .taken) (w .3 .ensures) (w .6 .result) (w .6 .last .1 .1 .1 .1 .0) (w .6 .ensures .0) (w .6 .ensures .1) (w .6 .ensures .2) (w .7 .ensures (w .8 .left))))
     (λ w. rw (w .1, w .2, w .3, w .4, w .5, w .6) (on-barred x g h (m ∙ w .0 .left)))
     y)
     (c .if2 .came)
@@ -149,9 +147,8 @@ pub +extend-spec : {M : Type 1} → statement M
     (extend-element-write-set t)
     (extend-add-visit t)
     (extend-visit-requires t)
-    (extend-add-goes-on t)
-    (extend-sub-goes-on t)
-    (extend-goes-on-requires-2 t)
+    (extend-sub-goes-deeper t)
+    (extend-goes-deeper-requires t)
     (extend-enter-once-requires t)
     (extend-add-extend t)
     (extend-sub-extend t)
