@@ -14,9 +14,8 @@ use Rattle.model.specs.Network.{Network}
 use Rattle.model.specs.Sets.{placeNumbers, allowed, setTotal, saving}
 use Rattle.model.specs.Walk.{Found, largest, hopeless, extend}
 use Rattle.walks.specs.Runs.{extend-spent, extend-hopeless, extend-allowed, extend-barred, on-true, on-false}
-use Rattle.theory.specs.Sizes.{numbers-length, read-sized, largest-size}
-use Rattle.theory.specs.Best.{Accepted}
-use Rattle.search.specs.Walking.{placesFrom, extended, tried, HoldsBounds, Barren}
+use Rattle.theory.specs.Sizes.{numbers-length}
+use Rattle.search.specs.Walking.{placesFrom, extended, mostSaved, tried, HoldsBounds, Barren}
 
 drop-numbers : (f : ℕ → ℕ) (k from count : ℕ) → drop k (map f (numbers from count)) ≡ map f (numbers (from + k) (count - k))
 unfolding numbers
@@ -36,11 +35,11 @@ drop-numbers f (suc k) from (suc count) = drop-numbers f k (from + 1) count ∙ 
     less : count - k ≡ suc count - suc k
     less = omega arith
 
-module _ (N : Network) (a : Accepted N) (bounds : List ℕ) (t : HoldsBounds N bounds) where
+module _ (N : Network) where
   -- the bound of the table
-  bound-is : (r place : ℕ) → r ≤ 16 → 1 ≤ place → place ≤ length (N .places) + 1 → getD bounds (r * 65 + place - 1) 0 ≡ largest r (map (λ p. saving N p) (placesFrom N place))
+  pub bound-is : (bounds : List ℕ) → HoldsBounds N bounds → (r place : ℕ) → r ≤ 16 → 1 ≤ place → place ≤ length (N .places) → getD bounds (r * 65 + place - 1) 0 ≡ mostSaved N r place
   unfolding placeNumbers
-  bound-is r place f l h =
+  bound-is bounds t r place f l h =
       ap (λ n. getD bounds n 0) {x = r * 65 + place - 1} {y = r * 65 + (place - 1)} (omega arith)
       ∙ t r (place - 1) f (omega arith) (omega (arith, length-map (numbers 1 (length (N .places))) (λ p. saving N p), numbers-length 1 (length (N .places))))
       ∙ ap (largest r) (drop-numbers (λ p. saving N p) (place - 1) 1 (length (N .places)))
@@ -51,9 +50,6 @@ module _ (N : Network) (a : Accepted N) (bounds : List ℕ) (t : HoldsBounds N b
 
       n : length (N .places) - (place - 1) ≡ length (N .places) + 1 - place
       n = omega arith
-
-  pub bound-size : (r place : ℕ) → r ≤ 16 → 1 ≤ place → place ≤ length (N .places) + 1 → getD bounds (r * 65 + place - 1) 0 ≤ 16 * 7864320000000000
-  bound-size r place f l h = omega (arith, bound-is r place f l h, largest-size N (read-sized N (a .read)) r (placesFrom N place))
 
   module _ (S : List ℕ) where
     -- the defined walk over a list of places
@@ -73,9 +69,9 @@ module _ (N : Network) (a : Accepted N) (bounds : List ℕ) (t : HoldsBounds N b
     unfolding numbers extend
     none-later r place f h = ap (λ n. walked r (numbers place n) f) {x = length (N .places) + 1 - place} {y = 0} (omega arith)
 
-    module _ (r place : ℕ) (few : r ≤ 16) (low : 1 ≤ place) (h : place ≤ length (N .places)) (l : r ≡ 0 → ⊥) (f : Found) where
+    module _ (r place : ℕ) (h : place ≤ length (N .places)) (l : r ≡ 0 → ⊥) (f : Found) where
       abbrev bound : ℕ
-      bound = getD bounds (r * 65 + place - 1) 0
+      bound = mostSaved N r place
 
       -- the place and the later ones
       split : extended N r S place f ≡ walked (suc (r - 1)) (place ∷ placesFrom N (place + 1)) f
@@ -90,7 +86,7 @@ module _ (N : Network) (a : Accepted N) (bounds : List ℕ) (t : HoldsBounds N b
 
       hopeless-is : hopeless (N .head .visits) (λ T. setTotal N T) (λ T. allowed N T) (λ p. saving N p) (suc (r - 1)) S (place ∷ placesFrom N (place + 1)) f ≡ leb (f .best + bound) (setTotal N S)
       unfolding hopeless numbers
-      hopeless-is = λ i. leb (f .best + sym (bound-is r place few low (omega arith) ∙ (λ j. largest (m j) (map (λ p. saving N p) (numbers place (n j))))) i) (setTotal N S)
+      hopeless-is = λ i. leb (f .best + largest (sym m i) (map (λ p. saving N p) (numbers place (sym n i)))) (setTotal N S)
         where
           m : r ≡ suc (r - 1)
           m = omega arith
@@ -127,10 +123,10 @@ module _ (N : Network) (a : Accepted N) (bounds : List ℕ) (t : HoldsBounds N b
               ∙ ap (walked (suc (r - 1)) (placesFrom N (place + 1))) (sym (on-false _ _ b))
 
     -- a set with nothing to gain
-    pub barren : (r place : ℕ) → r ≤ 16 → 1 ≤ place → (f : Found) → Barren N bounds (f .spent) (f .best) (setTotal N S) place r → extended N r S place f ≡ f
-    barren r place few low f x = go (decLt (length (N .places)) place) (decLt 0 r)
+    pub barren : (r place : ℕ) (f : Found) → Barren N (f .spent) (f .best) (setTotal N S) place r → extended N r S place f ≡ f
+    barren r place f x = go (decLt (length (N .places)) place) (decLt 0 r)
       where
         go : Dec (length (N .places) < place) → Dec (0 < r) → extended N r S place f ≡ f
         go (yes h) _ = none-later r place f h
         go (no h) (no l) = none-more r place f (omega arith)
-        go (no h) (yes l) = ⊎-elim (λ e. absurd (omega arith)) (λ y. ⊎-elim (λ e. absurd (h e)) (λ z. ⊎-elim (stop-spent r place few low (omega arith) (λ e. omega arith) f) (stop-bound r place few low (omega arith) (λ e. omega arith) f) z) y) x
+        go (no h) (yes l) = ⊎-elim (λ e. absurd (omega arith)) (λ y. ⊎-elim (λ e. absurd (h e)) (λ z. ⊎-elim (stop-spent r place (omega arith) (λ e. omega arith) f) (stop-bound r place (omega arith) (λ e. omega arith) f) z) y) x

@@ -96,9 +96,9 @@ module _ {N : Network} {relations ends lists sums bounds level₀ saved₀ set�
     low = omega (arith, x .low, g .low)
 
     -- where the walk goes no further and the level is as it came, it leaves what it has found
-    stopped : {level' : List ℕ} → level' ≡ level₀ → Barren N bounds (p .spent) (p .best .0) (at .total .0) place left → Left N (extended N left S from f₀) (at .size) p level₀ level' saved₀ saved set₀ set' best
+    stopped : {level' : List ℕ} → level' ≡ level₀ → Barren N (p .spent) (p .best .0) (at .total .0) place left → Left N (extended N left S from f₀) (at .size) p level₀ level' saved₀ saved set₀ set' best
     stopped e b = record {
-      found = sym (barren N (x .standing .chosen .accepted) bounds (x .table) S left place few low f (subst (λ m. Barren N bounds (p .spent) (p .best .0) m place left) (x .standing .total) b)) ∙ g .same;
+      found = sym (barren N S left place f (subst (λ m. Barren N (p .spent) (p .best .0) m place left) (x .standing .total) b)) ∙ g .same;
       counted = g .counted;
       bestLong = g .bestLong;
       setLong = g .setLong;
@@ -108,7 +108,7 @@ module _ {N : Network} {relations ends lists sums bounds level₀ saved₀ set�
       savedSame = g .savedSame;
     }
 
-    pub stopped-same : by ≡ at .last → Barren N bounds (p .spent) (p .best .0) (at .total .0) place left → Left N (extended N left S from f₀) (at .size) p level₀ level saved₀ saved set₀ set' best
+    pub stopped-same : by ≡ at .last → Barren N (p .spent) (p .best .0) (at .total .0) place left → Left N (extended N left S from f₀) (at .size) p level₀ level saved₀ saved set₀ set' best
     stopped-same e = stopped (⊎-elim (λ s. s .1) (λ s. absurd (omega (arith, s .0, s .1))) (g .state))
 
     -- the level is the set's own, and its changes are undone
@@ -122,7 +122,7 @@ module _ {N : Network} {relations ends lists sums bounds level₀ saved₀ set�
       pub left-row : Row lists (at .last) (many lists (at .last)) 65
       left-row = row (entered .0)
 
-      pub stopped-undone : {level' : List ℕ} → Undone lists (at .last) (at .size * 195) (many lists (at .last) + 1) saved level level' → Barren N bounds (p .spent) (p .best .0) (at .total .0) place left
+      pub stopped-undone : {level' : List ℕ} → Undone lists (at .last) (at .size * 195) (many lists (at .last) + 1) saved level level' → Barren N (p .spent) (p .best .0) (at .total .0) place left
           → Left N (extended N left S from f₀) (at .size) p level₀ level' saved₀ saved set₀ set' best
       stopped-undone u = stopped (u level₀ (x .levelLong) (entered .2))
 
@@ -130,7 +130,7 @@ module _ {N : Network} {relations ends lists sums bounds level₀ saved₀ set�
     levelled : Levelled N level S (at .last) by
     levelled = ⊎-elim (λ s. rw (s .0, s .1) (x .standing .levelled)) (λ s. inl (s .0, s .3)) (g .state)
 
-    module _ (h : Promising N bounds (p .spent) (p .best .0) (at .total .0) place left) where
+    module _ (h : Promising N (p .spent) (p .best .0) (at .total .0) place left) where
       -- the place is tried
       pub trying : Trying N relations level set' at by place
       trying = record {
@@ -180,7 +180,7 @@ module _ {N : Network} {relations ends lists sums bounds level₀ saved₀ set�
       tried-is : extended N left S (place + 1) (tried N (left - 1) S' place f) ≡ extended N left S from f₀
       tried-is =
           ap (λ U. extended N left S (place + 1) (tried N (left - 1) U place f)) (g .setSame)
-          ∙ sym (go-on N (x .standing .chosen .accepted) bounds (x .table) S left place few low (h .high) (h .some) f (h .unspent) (omega (arith, h .hope, x .standing .total)))
+          ∙ sym (go-on N S left place (h .high) (h .some) f (h .unspent) (omega (arith, h .hope, x .standing .total)))
           ∙ g .same
 
       pub on-barred : allowed N T ≡ false → On p by level saved set' best
@@ -207,7 +207,7 @@ module _ {N : Network} {relations ends lists sums bounds level₀ saved₀ set�
         tried-allowed = ap (extended N (left - 1) T (place + 1)) (v ∙ ap (λ U. visited N U f) set⁺-is) ∙ sym (on-true _ _ b)
 
         -- and not extended
-        pub on-barren : Barren N bounds (q .spent) (q .best .0) (next .total .0) (place + 1) (left - 1) → On q by level saved set⁺ best₁
+        pub on-barren : Barren N (q .spent) (q .best .0) (next .total .0) (place + 1) (left - 1) → On q by level saved set⁺ best₁
         on-barren r = record {
           low = omega (arith, g .low);
           within = omega (arith, h .high);
@@ -221,8 +221,8 @@ module _ {N : Network} {relations ends lists sums bounds level₀ saved₀ set�
           state = g .state;
           same =
               ap (extended N left S (place + 1))
-              (sym (barren N (x .standing .chosen .accepted) bounds (x .table) T (left - 1) (place + 1) (omega (arith, few)) (omega arith) (foundIn q best₁)
-              (subst (λ m. Barren N bounds (q .spent) (q .best .0) m (place + 1) (left - 1)) (n .total) r)) ∙ tried-allowed)
+              (sym (barren N T (left - 1) (place + 1) (foundIn q best₁)
+              (subst (λ m. Barren N (q .spent) (q .best .0) m (place + 1) (left - 1)) (n .total) r)) ∙ tried-allowed)
               ∙ tried-is;
         }
 

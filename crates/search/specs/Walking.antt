@@ -4,12 +4,12 @@ use mathlib.Core.Path.{_≡_}
 use mathlib.Core.Bool.{Bool, true, false}
 use mathlib.Core.Logic.{_⊎_}
 use mathlib.Core.List.{List, [], _∷_, _++_, map}
-use lib.ListN.{length, getD, take}
+use lib.ListN.{length, take}
 use Rattle.model.specs.Lists.{sum, numbers}
 use Rattle.model.specs.Network.{Network}
 use Rattle.model.specs.Outage.{total}
 use Rattle.model.specs.Sets.{placeNumbers, placeAt, allowed, setTotal, saving}
-use Rattle.model.specs.Walk.{Found, visit, extend}
+use Rattle.model.specs.Walk.{Found, largest, visit, extend}
 use Rattle.outage.specs.Held.{HoldsCustomers}
 use Rattle.places.specs.Held.{HoldsEnds, Level}
 use Rattle.places.specs.Lists.{HoldsLists, SameUpTo}
@@ -32,6 +32,10 @@ placesFrom N from = numbers from (length (N .places) + 1 - from)
 
 abbrev pub extended : Network → ℕ → List ℕ → ℕ → Found → Found
 extended N left S from f = extend (N .head .visits) (λ T. setTotal N T) (λ T. allowed N T) (λ p. saving N p) left S (placesFrom N from) f
+
+-- the sum of the largest savings of the places from one on
+abbrev pub mostSaved : Network → ℕ → ℕ → ℕ
+mostSaved N left from = largest left (map (λ p. saving N p) (placesFrom N from))
 
 -- the set with one more place is visited and extended, if it is allowed
 unfoldable pub tried : Network → ℕ → List ℕ → ℕ → Found → Found
@@ -77,15 +81,15 @@ pub record Next (N : Network) (set : List ℕ) (at : Current) (place : ℕ) (nex
   pub hours : next .hours ≡ sum (map (λ p. placeAt N p .hours) (take (at .size) set ++ (place ∷ [])))
 
 -- a set that may get `left` of the places from `from` on: none, or the walk is spent, or none can do better than the best total
-abbrev pub Barren : Network → List ℕ → Bool → ℕ → ℕ → ℕ → ℕ → Type 0
-Barren N bounds spent best total from left = (left ≡ 0) ⊎ ((length (N .places) < from) ⊎ ((spent ≡ true) ⊎ (best + getD bounds (left * 65 + from - 1) 0 ≤ total)))
+abbrev pub Barren : Network → Bool → ℕ → ℕ → ℕ → ℕ → Type 0
+Barren N spent best total from left = (left ≡ 0) ⊎ ((length (N .places) < from) ⊎ ((spent ≡ true) ⊎ (best + mostSaved N left from ≤ total)))
 
 -- some are left, the walk is not spent, and by the bound they may do better
-pub record Promising (N : Network) (bounds : List ℕ) (spent : Bool) (best total from left : ℕ) : Type 0 where
+pub record Promising (N : Network) (spent : Bool) (best total from left : ℕ) : Type 0 where
   pub some : left ≡ 0 → ⊥
   pub high : from ≤ length (N .places)
   pub unspent : spent ≡ false
-  pub hope : total < best + getD bounds (left * 65 + from - 1) 0
+  pub hope : total < best + mostSaved N left from
 
 -- the set may get `left` more of the places from `from` on
 pub record Extending (N : Network) (relations ends lists sums bounds level saved set : List ℕ) (at : Current) (from left : ℕ) : Type 0 where

@@ -23,7 +23,7 @@ ghost use Rattle.places.specs.Lists.{many, Row};
 ghost use Rattle.search.specs.Bounds.{Small, Savings, Column, Bounds};
 ghost use Rattle.search.specs.Changes.{Put, Keeping, Undone};
 ghost use Rattle.search.specs.Chosen.{Later, Entering, Entered, Tables};
-ghost use Rattle.search.specs.Walking.{foundIn, visited, extended, Counted, HoldsBounds, Trying, Next, Barren, Promising, Extending, Left, Starting};
+ghost use Rattle.search.specs.Walking.{foundIn, visited, extended, mostSaved, Counted, HoldsBounds, Trying, Next, Barren, Promising, Extending, Left, Starting};
 use amounts::Customers;
 use amounts::Total;
 use amounts::Weight;
@@ -405,6 +405,14 @@ fn with_place(
     }
 }
 
+// The sum of the `left` largest savings of the places from `from` on.
+fn most_saved(net: &[u64; 5129], bounds: &[u64; 1105], left: usize, from: usize) -> u64
+    requires { ⌜ HoldsBounds (networkIn (now net)) (now bounds) × (length (networkIn (now net) .places) ≤ 64) × (1 ≤ left) × (left ≤ 16) × (1 ≤ from) × (from ≤ length (networkIn (now net) .places)) ⌝ }
+    ensures { λ r. ⌜ r ≡ mostSaved (networkIn (now (net .entry))) left from ⌝ }
+{
+    bounds[left * 65 + from - 1]
+}
+
 // Whether a set with such a total is to be extended by places from `from` on: it may get `left`, some are left, the walk is not
 // spent, and by the bound they may do better than the best.
 fn goes_on(
@@ -416,7 +424,7 @@ fn goes_on(
     found: Progress,
 ) -> bool
     requires { ⌜ Accepted (networkIn (now net)) × HoldsBounds (networkIn (now net)) (now bounds) × Counted (networkIn (now net)) found × (left ≤ 16) × (1 ≤ from) ⌝ }
-    ensures { λ r. ⌜ (r ≡ false → Barren (networkIn (now (net .entry))) (now (bounds .entry)) (found .spent) (found .best .0) (total .0) from left) × (r ≡ true → Promising (networkIn (now (net .entry))) (now (bounds .entry)) (found .spent) (found .best .0) (total .0) from left) ⌝ }
+    ensures { λ r. ⌜ (r ≡ false → Barren (networkIn (now (net .entry))) (found .spent) (found .best .0) (total .0) from left) × (r ≡ true → Promising (networkIn (now (net .entry))) (found .spent) (found .best .0) (total .0) from left) ⌝ }
 {
     if left == 0 {
         return false;
@@ -427,7 +435,7 @@ fn goes_on(
     if found.spent {
         return false;
     }
-    total.number() < found.best.number() + bounds[left * 65 + from - 1]
+    total.number() < found.best.number() + most_saved(net, bounds, left, from)
 }
 
 // Whether a set whose last member is `place` is to be extended, by `left` more places.
@@ -440,7 +448,7 @@ fn goes_deeper(
     found: Progress,
 ) -> bool
     requires { ⌜ Accepted (networkIn (now net)) × HoldsBounds (networkIn (now net)) (now bounds) × Counted (networkIn (now net)) found × (left ≤ 16) × (place ≤ 64) ⌝ }
-    ensures { λ r. ⌜ (r ≡ false → Barren (networkIn (now (net .entry))) (now (bounds .entry)) (found .spent) (found .best .0) (total .0) (place + 1) left) ⌝ }
+    ensures { λ r. ⌜ (r ≡ false → Barren (networkIn (now (net .entry))) (found .spent) (found .best .0) (total .0) (place + 1) left) ⌝ }
 {
     goes_on(net, bounds, total, place + 1, left, found)
 }
