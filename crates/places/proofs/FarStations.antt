@@ -13,7 +13,7 @@ use Rattle.model.specs.Rules.{breakersOn}
 use Rattle.graphs.specs.Sum.{on}
 use Rattle.savings.specs.First.{this}
 use Rattle.theory.specs.Above.{breakers-count, series-above}
-use Rattle.theory.specs.Behind.{far, side-of}
+use Rattle.theory.specs.Behind.{side-of}
 use Rattle.theory.specs.Best.{Accepted}
 use Rattle.buffer.specs.Buffer.{networkIn}
 use Rattle.buffer.specs.Fits.{LineThere, EndThere, endIn}

@@ -3,7 +3,7 @@
 use Prim.Native.Nat.{ℕ, suc, _≤_, max}
 use mathlib.Core.Path.{_≡_, refl, sym, ap, _∙_, fun-ext}
 use mathlib.Core.Bool.{Bool, true, false, or-false}
-use mathlib.Core.Logic.{_⊎_, ⊎-elim}
+use mathlib.Core.Logic.{⊎-elim}
 use mathlib.Core.List.{List, [], _∷_, List·Memᴰ}
 use native.Mathlib.Omega.{arith}
 use lib.Dec.{eqb}
@@ -23,7 +23,7 @@ use Rattle.theory.specs.Ends.{closed-end, in-numbers, numbers-in}
 use Rattle.theory.specs.Radial.{In, listed-vertex, station-in}
 use Rattle.theory.specs.Forest.{end-first}
 use Rattle.theory.specs.Above.{breakers-count}
-use Rattle.theory.specs.Behind.{far, far-not, vertices, listed-in}
+use Rattle.theory.specs.Behind.{far-not, vertices, listed-in}
 use Rattle.theory.specs.Best.{Accepted, place-closed}
 use Rattle.tree.specs.Outwards.{firstEnd, nearEnd}
 use Rattle.outage.proofs.Paths.{near-end, station-far}

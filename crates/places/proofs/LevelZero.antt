@@ -61,9 +61,6 @@ module _ (N : Network) where
   abbrev pub Valued : List ℕ → ℕ → Type 0
   Valued level k = HoldsNears N level × Filled weightOf (λ p. 65 + p) level k × Filled worstOf (λ p. 130 + p) level k
 
-  pub valued-none : (level : List ℕ) → HoldsNears N level → Valued level 1
-  valued-none level n = (n, (λ p a b. absurd (omega arith)), λ p a b. absurd (omega arith))
-
   pub valued-more : length (N .places) ≤ 64 → (level : List ℕ) (k v w : ℕ) → 195 ≤ length level → k ≤ 64 → v ≡ weightOf k → w ≡ worstOf k → Valued level k
       → Valued (set (set level (65 + k) v) (130 + k) w) (k + 1)
   valued-more few level k v w h b ev ew (n, f, g) =

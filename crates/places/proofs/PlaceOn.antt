@@ -1,7 +1,7 @@
 -- The place on an end: it is a place of the network and its end is that one, or the end is no place's.
 use Prim.Native.Nat.{ℕ, zero, suc, _+_, _≤_, _<_}
-use mathlib.Core.Path.{_≡_, refl, sym, ap, _∙_}
-use mathlib.Core.Bool.{Bool, true, false, _||_, true≢false}
+use mathlib.Core.Path.{_≡_, refl, ap, _∙_}
+use mathlib.Core.Bool.{Bool, true, false, _||_}
 use mathlib.Core.Logic.{_⊎_, inl, inr, ⊎-elim}
 use mathlib.Core.List.{List, map, List·Memᴰ, Memᴰ·map}
 use native.Mathlib.Omega.{arith}
@@ -19,7 +19,7 @@ use Rattle.theory.specs.Reading.{Read}
 use Rattle.theory.specs.Ends.{any-in, in-numbers}
 use Rattle.theory.specs.Best.{Accepted, place-plain}
 use Rattle.places.specs.Ways.{has}
-use Rattle.places.specs.Apart.{placeEnds, ends-apart}
+use Rattle.places.specs.Apart.{placeEnds}
 use Rattle.places.specs.Held.{placeOn}
 use Rattle.places.proofs.Marking.{place-fits}
 
@@ -74,12 +74,6 @@ pub no-end-unplaced : (N : Network) → Read N → Unplaced N noEnd
 no-end-unplaced N d = ⊎-elim (λ n. n) (λ g. absurd (omega (arith, place-fits N d (placeOn N noEnd) (g .low) (g .high) .line, ap (λ (e : End). e .line) (g .is)))) (place-or-none N noEnd)
 
 module _ (N : Network) (a : Accepted N) where
-  -- the place on a place's end
-  pub own-place : (p : ℕ) → 1 ≤ p → p ≤ length (N .places) → placeOn N (endAt N p) ≡ p
-  own-place p l h = ⊎-elim (λ n. absurd (true≢false (sym (listed-place N p l h) ∙ n .1)))
-      (λ g. ends-apart N a (placeOn N (endAt N p)) p (listed-number N _ (g .low) (g .high)) (listed-number N p l h) (g .is))
-      (place-or-none N (endAt N p))
-
   -- no place is on a breaker
   pub breaker-unplaced : (e : End) → isBreaker N e ≡ true → placeOn N e ≡ 0
   breaker-unplaced e b = ⊎-elim (λ n. n .0) (λ g. absurd (omega (arith, eqb-true (state N e) 1 b, ap (state N) (g .is), place-plain N a (placeOn N e) (listed-number N _ (g .low) (g .high))))) (place-or-none N e)

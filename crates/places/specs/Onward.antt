@@ -89,14 +89,6 @@ module _ (N : Network) (d : Read N) (r : Rules N) where
   unfolding onward
   way-onward e c = let x = closed-end N e c in less-way (onward N) e (pathToHV N (line (e .line))) (way (line (e .line)) (x .0, x .1))
 
-  -- The path onward from a line's near end is that of its station, from its far end that of the line.
-  pub onward-near : (e : End) → pathToHV N (line (e .line)) ≡ e ∷ pathToHV N (station (stationAt N e)) → onward N e ≡ pathToHV N (station (stationAt N e))
-  unfolding onward
-  onward-near e p = ap (less e) p ∙ less-first e (pathToHV N (station (stationAt N e)))
-
-  pub onward-far : (e : End) → isOpen N e ≡ false → pathToHV N (station (stationAt N e)) ≡ e ∷ pathToHV N (line (e .line)) → onward N e ≡ pathToHV N (line (e .line))
-  onward-far e c p = let x = closed-end N e c in sym (subst (Way (onward N)) p (way (station (stationAt N e)) (station-in N d e (x .0) (x .1))) .0)
-
   -- some station or line lies behind each closed end
   pub behind-end : (e : End) → isOpen N e ≡ false → someBehind (pathToHV N) (vertices N) e ≡ true
   unfolding any

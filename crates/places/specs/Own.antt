@@ -1,6 +1,6 @@
 -- What is each place's own, in buffers with a number for each place: the weight of the lines whose path meets the place first, and
 -- the most breakers on such a path of a line or a station. And of which places what is their own counts for a place.
-use Prim.Native.Nat.{ℕ, _+_, _*_, _-_, _≤_}
+use Prim.Native.Nat.{ℕ, _+_, _*_, _≤_}
 use mathlib.Core.Path.{_≡_}
 use mathlib.Core.Bool.{Bool, true, false, _&&_, _||_}
 use mathlib.Core.List.{List, [], _∷_}
@@ -8,14 +8,11 @@ use lib.Dec.{eqb}
 use lib.ListN.{length, getD}
 use Rattle.model.specs.Network.{Network}
 use Rattle.model.specs.Paths.{End, isOpen}
-use Rattle.model.specs.Outage.{tripped}
 use Rattle.savings.specs.Breakers.{endAt}
-use Rattle.savings.specs.Totals.{breakersWith}
 use Rattle.theory.specs.Behind.{far}
 use Rattle.tree.specs.Linked.{endCode}
 use Rattle.tree.specs.Outwards.{nearEnd}
-use Rattle.tree.specs.Counts.{pathBreakers}
-use Rattle.places.specs.Stops.{firstStop, firstPlace}
+use Rattle.places.specs.Stops.{firstPlace}
 use Rattle.places.specs.Sets.{route, nearAt}
 use Rattle.places.specs.Apart.{placeEnds}
 use Rattle.places.specs.Start.{ownAt, ownWorstAt}

@@ -26,7 +26,7 @@ use Rattle.theory.specs.Above.{breakers-count, series-above}
 use Rattle.theory.specs.Behind.{vertices, listed-in}
 use Rattle.theory.specs.With.{with-read, with-rules}
 use Rattle.places.specs.Ways.{has, with, Way, near, under, near-with}
-use Rattle.places.specs.Weights.{weight, total-with, weight-part, weight-with}
+use Rattle.places.specs.Weights.{weight, total-with, weight-with}
 use Rattle.places.specs.Worst.{worst, series-with, worst-with}
 use Rattle.places.specs.Onward.{onward, way, way-onward, behind-end}
 
@@ -127,14 +127,6 @@ module _ (N : Network) (d : Read N) (r : Rules N) where
       setTotal-is N S v ∙ sum-over _ (lines N),
       setTotal-is N (S ++ (q ∷ [])) (valid-append N S (q ∷ []) v (c, tt)) ∙ ap (totalWith N) (breakers-one N S q) ∙ sum-over _ (lines N),
       total-with (route N) (load N) (onward N) B e (no-breaker N S v) f (λ d. customersBehind N d) (lines N) line-ways,
-    )
-
-    -- what it falls from is part of the total
-    pub set-part : weightAt N S e * customersBehind N (nearAt N S e) ≤ setTotal N S
-    set-part = omega (
-      arith,
-      setTotal-is N S v ∙ sum-over _ (lines N),
-      weight-part (route N) (load N) (onward N) B e (no-breaker N S v) f (λ d. customersBehind N d) (lines N) line-ways,
     )
 
     -- the breaker near an end: the new one, where the end is under it

@@ -1,5 +1,5 @@
 -- The total and the weights by places: how they change with one more breaker.
-use Prim.Native.Nat.{ℕ, _+_, _*_, _≤_}
+use Prim.Native.Nat.{ℕ, _+_, _*_}
 use mathlib.Core.Path.{_≡_, refl, sym, ap, _∙_}
 use mathlib.Core.Bool.{Bool, true, false, not, _&&_, _||_, true≢false}
 use mathlib.Core.List.{List, [], _∷_, List·Memᴰ, List·Memᴰ·head, List·Memᴰ·tail}
@@ -71,15 +71,6 @@ module _ (path : ℕ → List End) (w : ℕ → ℕ) where
           ap (λ x. w l * value x) (covered up B q n f (path l) (ways l (List·Memᴰ·head refl)) c),
         )
         one false c = omega (arith, ap (λ x. w l * value x) (first-with B q (path l) ∙ ap (λ x. this x q (firstOr noEnd B (path l))) c))
-
-    -- The amount that is lost for what gets lower is part of the total.
-    pub weight-part : (value : End → ℕ) (ls : List ℕ) → ((l : ℕ) → List·Memᴰ l ls → Way up (path l)) → weight ls B q * value (near up B q) ≤ totalBy value ls B
-    weight-part value [] ways = omega arith
-    weight-part value (l ∷ ls) ways = omega (arith, one (covers B q (path l)) refl, weight-part value ls (λ k m. ways k (List·Memᴰ·tail m)))
-      where
-        one : (c : Bool) → covers B q (path l) ≡ c → on c (w l) * value (near up B q) ≤ w l * value (firstOr noEnd B (path l))
-        one true c = omega (arith, ap (λ x. w l * value x) (covered up B q n f (path l) (ways l (List·Memᴰ·head refl)) c))
-        one false c = omega arith
 
     -- Weights: one more breaker at q takes its weight from that of an end p that q is under.
     pub weight-with : (p : End) → B p ≡ false → Way up (up q) → (ls : List ℕ) → ((l : ℕ) → List·Memᴰ l ls → Way up (path l))

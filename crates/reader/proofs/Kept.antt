@@ -1,7 +1,7 @@
 -- What a write in one part of the buffer leaves of the others.
 use mathlib.Core.Path.{_≡_, sym, ap, ap₂, _∙_}
 use mathlib.Core.List.{List, _++_, map}
-use Prim.Native.Nat.{ℕ, _+_, _*_, _-_, _≤_, _<_}
+use Prim.Native.Nat.{ℕ, _+_, _*_, _≤_, _<_}
 use native.Mathlib.Omega.{arith}
 use lib.ListN.{length, getD, take, drop, set, length-drop, take-append-drop}
 use lib.Seq.{drop-append-le, drop-at, drop-drop, drop-set-lt, getD-set-same, getD-take, length-take-le, take-add, take-set-le, take-take}

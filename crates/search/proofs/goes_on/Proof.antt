@@ -1,9 +1,8 @@
-use Prim.Native.Nat.{_+_, _*_, _-_}
+use Prim.Native.Nat.{_+_}
 use mathlib.Core.Path.{sym}
 use mathlib.Core.Bool.{true≢false}
 use mathlib.Core.Logic.{inl, inr}
 use native.Mathlib.Omega.{arith}
-use lib.ListN.{getD}
 use borrow.Author.Tests.{ltb-true, ltb-false}
 use Rattle.buffer.specs.Buffer.{networkIn}
 use Rattle.theory.specs.Sizes.{read-sized, largest-size}
