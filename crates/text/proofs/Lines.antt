@@ -65,21 +65,17 @@ module _ (letter : ℕ) (ns b : List ℕ) where
             ∙ first (flatMap (λ n. comma ∷ decimal n) ns ++ (newline ∷ [])),
       )
 
--- w with a comma behind the line
-abbrev withComma : List ℕ → ℕ → List ℕ
-withComma w at = set w at comma
-
--- one number more: its digits d over the start of the part behind the comma
-pub one-more : (letter : ℕ) (ns b w : List ℕ) (at i n : ℕ) (d : List ℕ) → i < length ns → Begun letter ns b w at i
+-- one number more: v is w with a comma behind the line, and d the digits over the start of the part behind the comma
+pub one-more : (letter : ℕ) (ns b w v : List ℕ) (at i n : ℕ) (d : List ℕ) → i < length ns → Begun letter ns b w at i → v ≡ set w at comma
     → n ≡ length (decimal (getD ns i 0)) → n ≤ 20
-    → d ≡ over (decimal (getD ns i 0)) (take (length (withComma w at) - (at + 1)) (drop (at + 1) (withComma w at)))
-    → Begun letter ns b (putMid (at + 1) (length (withComma w at) - (at + 1)) (withComma w at) d) (at + 1 + n) (i + 1)
-one-more letter ns b w at i n d h g en few e =
+    → d ≡ over (decimal (getD ns i 0)) (take (length v - (at + 1)) (drop (at + 1) v))
+    → Begun letter ns b (putMid (at + 1) (length v - (at + 1)) v d) (at + 1 + n) (i + 1)
+one-more letter ns b w v at i n d h g stored en few e =
     let t : List ℕ = lineStart letter (take i ns) ++ (comma ∷ []) in
     let more = start-more letter ns i h in
     let here1 : at + 1 ≡ length t = omega (arith, g .here, length-append (lineStart letter (take i ns)) (comma ∷ [])) in
     let here2 : at + 1 + n ≡ length (lineStart letter (take (i + 1) ns)) = omega (arith, here1, length-append t (decimal (getD ns i 0)), ap length more) in
-    let is1 = over-set _ b w at (g .is) (g .here) comma (omega arith) in
-    let is2 = over-part t b (withComma w at) (at + 1) is1 here1 (decimal (getD ns i 0)) d e ∙ ap (λ (l : List ℕ). over l b) more in
+    let is1 = stored ∙ over-set _ b w at (g .is) (g .here) comma (omega arith) in
+    let is2 = over-part t b v (at + 1) is1 here1 (decimal (getD ns i 0)) d e ∙ ap (λ (l : List ℕ). over l b) more in
     let long2 = over-length _ b _ (at + 1 + n) is2 here2 (omega arith) in
     record { room = omega arith; long = long2; low = omega arith; here = here2; is = is2 }

@@ -1,9 +1,17 @@
 // The writers of the report's lines.
 ghost use mathlib.Core.Path.{_≡_};
 ghost use mathlib.Core.List.{_++_};
-ghost use Prim.Native.Nat.{_+_, _*_, _≤_};
-ghost use lib.ListN.{length, drop};
+ghost use Prim.Native.Nat.{_+_, _*_, _≤_, _<_};
+ghost use lib.ListN.{length, set, drop};
 ghost use Rattle.model.specs.Text.{decimal, printedLine};
+
+// A byte at a position of a buffer.
+fn put_byte(buf: &mut [u8], at: usize, byte: u8)
+    requires { ⌜ at < length (now buf) ⌝ }
+    ensures { λ r. ⌜ now (buf .exit) ≡ set (now (buf .entry)) at byte ⌝ }
+{
+    buf[at] = byte;
+}
 
 // The decimal digits of a number at the start of a buffer; answers how many.
 pub fn put_number(buf: &mut [u8], n: u64) -> usize
@@ -11,11 +19,11 @@ pub fn put_number(buf: &mut [u8], n: u64) -> usize
     ensures { λ r. ⌜ (r ≡ length (decimal n)) × (now (buf .exit) ≡ decimal n ++ drop (length (decimal n)) (now (buf .entry))) × (1 ≤ r) × (r ≤ 20) ⌝ }
 {
     if n < 10 {
-        buf[0] = 48 + n as u8;
+        put_byte(buf, 0, 48 + n as u8);
         1
     } else {
         let at = put_number(buf, n / 10);
-        buf[at] = 48 + (n % 10) as u8;
+        put_byte(buf, at, 48 + (n % 10) as u8);
         at + 1
     }
 }
@@ -25,13 +33,13 @@ pub fn put_line(buf: &mut [u8], letter: u8, numbers: &[u64]) -> usize
     requires { ⌜ 2 + 21 * length (now numbers) ≤ length (now buf) ⌝ }
     ensures { λ r. ⌜ (r ≡ length (printedLine letter (now (numbers .entry)))) × (now (buf .exit) ≡ printedLine letter (now (numbers .entry)) ++ drop (length (printedLine letter (now (numbers .entry)))) (now (buf .entry))) × (r ≤ 2 + 21 * length (now (numbers .entry))) ⌝ }
 {
-    buf[0] = letter;
+    put_byte(buf, 0, letter);
     let mut at: usize = 1;
     for i in 0..numbers.len() {
-        buf[at] = b',';
+        put_byte(buf, at, b',');
         at = at + 1;
         at = at + put_number(&mut buf[at..], numbers[i]);
     }
-    buf[at] = b'\n';
+    put_byte(buf, at, b'\n');
     at + 1
 }

@@ -3,7 +3,7 @@ use mathlib.Core.Path.{_≡_, refl, sym, ap, _∙_}
 use mathlib.Core.List.{List, []}
 use Prim.Native.Nat.{ℕ, _+_, _/_, _%_, _^_, _≤_, _<_}
 use native.Mathlib.Omega.{arith}
-use lib.ListN.{length, set, length-set}
+use lib.ListN.{length, set}
 use borrow.Fn.Kinds.{In}
 use borrow.Fn.PlainCycle.{Measures, is, falls, and}
 use Rattle.model.specs.Text.{decimal}
@@ -13,6 +13,7 @@ use Rattle.text.proofs.Over.{over, over-set}
 use Rattle.text.proofs.put_number.Reads as put-number
 use Rattle.text.proofs.put_number.Kinds as put-number-kinds
 use Rattle.text.proofs.+put_number.Lts-put_number as put-number-lts
+use Rattle.text.proofs.put_byte.Reads as put-byte-reads
 use Rattle.text.proofs.+put_number.{statement}
 use Rattle.text.proofs.+put_number.Tie.{close}
 
@@ -39,103 +40,125 @@ abbrev put-number-below : ℕ → In 1 put-number-kinds.ps
 put-number-below t =
     and 1 put-number-kinds.ps (falls 1 put-number-kinds.ps _<_ μ-put-number t) put-number.Pre
 
-put-number-cast-buf :
-    (t : ℕ) →
-    put-number-lts.Need-cast-buf
-    (put-number-below t, put-number.Post)
-    (put-number-at t)
-    put-number.Post
-put-number-cast-buf t c = omega arith
-
-put-number-add-buf :
-    (t : ℕ) →
-    put-number-lts.Need-add-buf
-    (put-number-below t, put-number.Post)
-    (put-number-at t)
-    put-number.Post
-put-number-add-buf t c = omega arith
-
-put-number-slice-write-buf : (t : ℕ) → put-number-lts.Need-slice-write-buf (
+put-number-cast-put-byte : (t : ℕ) → put-number-lts.Need-cast-put-byte (
+  put-byte-reads.Asked,
+  put-byte-reads.Learnt,
   put-number-below t,
   put-number.Post,
 ) (put-number-at t) put-number.Post
-put-number-slice-write-buf t c = omega arith
+put-number-cast-put-byte t c = omega arith
+
+put-number-add-put-byte : (t : ℕ) → put-number-lts.Need-add-put-byte (
+  put-byte-reads.Asked,
+  put-byte-reads.Learnt,
+  put-number-below t,
+  put-number.Post,
+) (put-number-at t) put-number.Post
+put-number-add-put-byte t c = omega arith
+
+put-number-put-byte-requires : (t : ℕ) → put-number-lts.Need-put-byte-requires (
+  put-byte-reads.Asked,
+  put-byte-reads.Learnt,
+  put-number-below t,
+  put-number.Post,
+) (put-number-at t) put-number.Post
+put-number-put-byte-requires t c κs = search needs
 
 put-number-put-number-requires : (t : ℕ) → put-number-lts.Need-put-number-requires (
+  put-byte-reads.Asked,
+  put-byte-reads.Learnt,
   put-number-below t,
   put-number.Post,
 ) (put-number-at t) put-number.Post
 put-number-put-number-requires t c κs = (omega arith, search needs)
 
-put-number-cast-buf-2 : (t : ℕ) → put-number-lts.Need-cast-buf-2 (
+put-number-cast-put-byte-2 : (t : ℕ) → put-number-lts.Need-cast-put-byte-2 (
+  put-byte-reads.Asked,
+  put-byte-reads.Learnt,
   put-number-below t,
   put-number.Post,
 ) (put-number-at t) put-number.Post
-put-number-cast-buf-2 t c = omega arith
+put-number-cast-put-byte-2 t c = omega arith
 
-put-number-add-buf-2 : (t : ℕ) → put-number-lts.Need-add-buf-2 (
+put-number-add-put-byte-2 : (t : ℕ) → put-number-lts.Need-add-put-byte-2 (
+  put-byte-reads.Asked,
+  put-byte-reads.Learnt,
   put-number-below t,
   put-number.Post,
 ) (put-number-at t) put-number.Post
-put-number-add-buf-2 t c = omega arith
+put-number-add-put-byte-2 t c = omega arith
 
-put-number-slice-write-buf-2 : (t : ℕ) → put-number-lts.Need-slice-write-buf-2 (
+put-number-put-byte-requires-2 : (t : ℕ) → put-number-lts.Need-put-byte-requires-2 (
+  put-byte-reads.Asked,
+  put-byte-reads.Learnt,
   put-number-below t,
   put-number.Post,
 ) (put-number-at t) put-number.Post
-put-number-slice-write-buf-2 t c = omega (arith, place (c .before .before .before .before .before .before .args .n) _ (search needs) (search needs) (c .before .before .put-number .ensures .0))
+put-number-put-byte-requires-2 t c κs = omega (arith, place (c .before .before .before .before .before .before .before .args .n) _ (search needs) (search needs) (c .before .before .before .put-number .ensures .0))
 
 put-number-add-result : (t : ℕ) → put-number-lts.Need-add-result (
+  put-byte-reads.Asked,
+  put-byte-reads.Learnt,
   put-number-below t,
   put-number.Post,
 ) (put-number-at t) put-number.Post
 put-number-add-result t c = omega arith
 
 put-number-same-length : (t : ℕ) → put-number-lts.Need-same-length (
+  put-byte-reads.Asked,
+  put-byte-reads.Learnt,
   put-number-below t,
   put-number.Post,
 ) (put-number-at t) put-number.Post
-put-number-same-length t c = simp length-set
+put-number-same-length t c = search needs
 
-put-number-returns :
-    (t : ℕ) →
-    put-number-lts.Need-returns
-    (put-number-below t, put-number.Post)
-    (put-number-at t)
-    put-number.Post
+put-number-returns : (t : ℕ) → put-number-lts.Need-returns (
+  put-byte-reads.Asked,
+  put-byte-reads.Learnt,
+  put-number-below t,
+  put-number.Post,
+) (put-number-at t) put-number.Post
 unfolding over
 put-number-returns t c =
-    (sym (ap length (decimal-short (c .before .before .args .n) (omega arith))), only _ _ (search needs) (search needs), omega arith, omega arith)
+    let n = c .before .before .before .before .before .before .args .n in
+    (sym (ap length (decimal-short n (omega arith))), c .before .before .put-byte .ensures ∙ only _ n (search needs) (search needs), omega arith, omega arith)
 
 put-number-same-length-2 : (t : ℕ) → put-number-lts.Need-same-length-2 (
+  put-byte-reads.Asked,
+  put-byte-reads.Learnt,
   put-number-below t,
   put-number.Post,
 ) (put-number-at t) put-number.Post
-put-number-same-length-2 t c = simp length-set (search needs)
+put-number-same-length-2 t c = search needs
 
 put-number-returns-2 : (t : ℕ) → put-number-lts.Need-returns-2 (
+  put-byte-reads.Asked,
+  put-byte-reads.Learnt,
   put-number-below t,
   put-number.Post,
 ) (put-number-at t) put-number.Post
 unfolding over
 put-number-returns-2 t c =
-    let p = place (c .before .before .before .before .before .before .args .n) _ (search needs) (search needs) (c .before .before .put-number .ensures .0) in
-    (p .0, last _ _ _ _ (search needs) (search needs) (c .before .before .put-number .ensures .0) (c .before .before .put-number .ensures .1), omega arith, omega arith)
+    let e = c .before .before .before .before .before .before .put-number .ensures in
+    let p = place (c .before .before .before .before .before .before .before .before .before .before .args .n) _ (search needs) (search needs) (e .0) in
+    (p .0, c .before .before .put-byte2 .ensures ∙ last _ _ _ _ (search needs) (search needs) (e .0) (e .1), omega arith, omega arith)
 
 pub +put-number-spec : {M : Type 1} → statement M
 +put-number-spec = close μ-put-number λ t. put-number-lts.spec (
+  put-byte-reads.Asked,
+  put-byte-reads.Learnt,
   put-number-below t,
   put-number.Post,
 )
     (put-number-at t)
     put-number.Post
-    (put-number-cast-buf t)
-    (put-number-add-buf t)
-    (put-number-slice-write-buf t)
+    (put-number-cast-put-byte t)
+    (put-number-add-put-byte t)
+    (put-number-put-byte-requires t)
     (put-number-put-number-requires t)
-    (put-number-cast-buf-2 t)
-    (put-number-add-buf-2 t)
-    (put-number-slice-write-buf-2 t)
+    (put-number-cast-put-byte-2 t)
+    (put-number-add-put-byte-2 t)
+    (put-number-put-byte-requires-2 t)
     (put-number-add-result t)
     (put-number-same-length t)
     (put-number-returns t)

@@ -1,8 +1,9 @@
 use borrow.Author.Needs.{needs}
-use mathlib.Core.Path.{_≡_, refl}
-use Prim.Native.Nat.{_-_, _≤_}
+use mathlib.Core.Path.{_≡_, refl, sym, subst, _∙_}
+use mathlib.Core.List.{List}
+use Prim.Native.Nat.{ℕ, _-_, _≤_}
 use native.Mathlib.Omega.{arith}
-use lib.ListN.{length, length-take, length-drop, length-set}
+use lib.ListN.{length}
 use Rattle.text.proofs.Lines.{Begun, begin, one-more, finish}
 use Rattle.text.proofs.Over.{over}
 use Rattle.text.proofs.put_line.Statement.{statement}
@@ -15,23 +16,26 @@ Inv-loop buf₀ letter numbers at₀ i₀ i-end buf at i =
 abbrev μ-loop : tie.MeasureT-loop
 μ-loop buf₀ letter numbers at₀ i₀ i-end buf at i = i-end - i
 
-slice-write-buf : tie.Need-slice-write-buf Inv-loop μ-loop
-slice-write-buf c = search needs
+put-byte-requires : tie.Need-put-byte-requires Inv-loop μ-loop
+put-byte-requires c κs = search needs
 
 loop-holds : tie.Need-loop-holds Inv-loop μ-loop
-loop-holds c = (refl, omega arith, begin _ _ (c .before .before .args .buf .now) (search needs))
+loop-holds c =
+    let a = c .before .before .before .before .before .before .args in
+    let begun = subst (λ (b : List ℕ). Begun (a .letter) (a .numbers .now) b b 1 0) (sym (c .before .before .put-byte .ensures)) (begin (a .letter) (a .numbers .now) (a .buf .now) (search needs)) in
+    (refl, omega arith, begun)
 
-slice-write-buf-2 : tie.Need-slice-write-buf-2 Inv-loop μ-loop
-slice-write-buf-2 c = omega arith
+put-byte-requires-2 : tie.Need-put-byte-requires-2 Inv-loop μ-loop
+put-byte-requires-2 c κs = search needs
 
 add-at : tie.Need-add-at Inv-loop μ-loop
 add-at c = search needs
 
 sub-put-number : tie.Need-sub-put-number Inv-loop μ-loop
-sub-put-number c = simp length-set (omega arith)
+sub-put-number c = search needs
 
 part-put-number-start : tie.Need-part-put-number-start Inv-loop μ-loop
-part-put-number-start c = simp length-set (omega arith)
+part-put-number-start c = search needs
 
 part-put-number-end : tie.Need-part-put-number-end Inv-loop μ-loop
 part-put-number-end c = search needs
@@ -43,7 +47,7 @@ shared-slice-read-put-number : tie.Need-shared-slice-read-put-number Inv-loop μ
 shared-slice-read-put-number c = search needs
 
 put-number-requires : tie.Need-put-number-requires Inv-loop μ-loop
-put-number-requires c κs = simp (length-take, length-drop, length-set) (omega arith)
+put-number-requires c κs = search needs
 
 add-at-2 : tie.Need-add-at-2 Inv-loop μ-loop
 add-at-2 c = search needs
@@ -56,22 +60,27 @@ loop-less c = search needs
 
 loop-again : tie.Need-loop-again Inv-loop μ-loop
 unfolding over
-loop-again c = (refl, omega arith, one-more _ _ _ _ _ _ _ _ (omega arith) (c .before .before .before .before .before .before .loop .inv .2) (c .before .before .put-number .ensures .0) (c .before .before .put-number .ensures .3) (c .before .before .put-number .ensures .1))
+loop-again c =
+    let e = c .before .before .put-number .ensures in
+    (refl, omega arith, one-more _ _ _ _ _ _ _ _ _ (omega arith) (c .before .before .before .before .before .before .before .before .before .before .loop .inv .2) (c .before .before .before .before .before .before .before .put-byte2 .ensures) (e .0) (e .3) (e .1))
 
-slice-write-buf-3 : tie.Need-slice-write-buf-3 Inv-loop μ-loop
-slice-write-buf-3 c = omega arith
+put-byte-requires-3 : tie.Need-put-byte-requires-3 Inv-loop μ-loop
+put-byte-requires-3 c κs = search needs
 
 add-result : tie.Need-add-result Inv-loop μ-loop
 add-result c = search needs
 
 same-length : tie.Need-same-length Inv-loop μ-loop
-same-length c = simp length-set (omega (arith, length-set (c .before .before .before .before .args .buf .now) 0 (c .before .before .before .before .args .letter)))
+same-length c = search needs
 
 returns : tie.Need-returns Inv-loop μ-loop
 unfolding over
 returns c =
-    let f = finish _ _ (c .before .before .before .before .args .buf .now) _ _ _ (search needs) (c .before .loop .inv .2) in
-    (f .0, f .1, omega arith)
+    let a = c .before .before .before .before .before .before .before .before .before .before .before .before .args in
+    let l = c .before .before .before .before .before .loop in
+    let begun = subst (λ (b : List ℕ). Begun (a .letter) (a .numbers .now) b (l .buf) (l .at) (l .i)) (c .before .before .before .before .before .before .before .before .put-byte .ensures) (l .inv .2) in
+    let f = finish (a .letter) (a .numbers .now) (a .buf .now) _ _ _ (search needs) begun in
+    (f .0, c .before .before .put-byte3 .ensures ∙ f .1, omega arith)
 
 pub put-line-spec : {M : Type 1} → statement M
 put-line-spec =
@@ -79,9 +88,9 @@ put-line-spec =
     (tie.spec
     Inv-loop
     μ-loop
-    slice-write-buf
+    put-byte-requires
     loop-holds
-    slice-write-buf-2
+    put-byte-requires-2
     add-at
     sub-put-number
     part-put-number-start
@@ -93,7 +102,7 @@ put-line-spec =
     add-i
     loop-less
     loop-again
-    slice-write-buf-3
+    put-byte-requires-3
     add-result
     same-length
     returns)
