@@ -1,5 +1,5 @@
 -- What Impact and Total answer, by whether the file is accepted.
-use Prim.Native.Nat.{ℕ, _*_, _≤_, _<_}
+use Prim.Native.Nat.{ℕ, _≤_, _<_}
 use mathlib.Core.Path.{_≡_, refl, sym, ap, _∙_}
 use mathlib.Core.Logic.{_⊎_, inl, inr}
 use mathlib.Core.Bool.{Bool, true, false, _&&_}
@@ -57,7 +57,7 @@ module _ (file b : List ℕ) (r : CheckAnswer) (h : loaded r b ≡ accepted file
     unfolding impactSays
     impact-none l o = sym (impact-outside (networkIn b) l o) ∙ then-impact l
 
-    pub total-given : (t m : ℕ) → t ≡ total (networkIn b) → m ≡ networkIn b .head .minutes → totalSays (TotalAnswer.Outage t (m * t)) ≡ totalled file
-    unfolding totalSays totalled before figure
-    total-given t m p q =
-        (λ i. given (record { total = p i; figure = q i * p i })) ∙ answered file b (λ N. given (record { total = total N; figure = figure N })) CheckAnswer.Accepted (same-answer file b r h e)
+    pub total-given : (t g : ℕ) → t ≡ total (networkIn b) → g ≡ figure (networkIn b) → totalSays (TotalAnswer.Outage t g) ≡ totalled file
+    unfolding totalSays totalled before
+    total-given t g p q =
+        (λ i. given (record { total = p i; figure = q i })) ∙ answered file b (λ N. given (record { total = total N; figure = figure N })) CheckAnswer.Accepted (same-answer file b r h e)

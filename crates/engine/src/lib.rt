@@ -226,7 +226,7 @@ pub fn total(file: &[u8]) -> TotalAnswer
         CheckAnswer::Refused { number, record } => TotalAnswer::Refused { number, record },
         CheckAnswer::Accepted => {
             let total = outage::total_of(&net, &impacts).number();
-            let figure = buffer::minutes(&net) * total;
+            let figure = outage::figure_of(&net, total);
             TotalAnswer::Outage { total, figure }
         }
     }

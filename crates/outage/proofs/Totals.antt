@@ -7,7 +7,7 @@ use lib.ListN.{length}
 use Rattle.model.specs.Lists.{sum, numbers, numbered}
 use Rattle.model.specs.Network.{Network, noLine}
 use Rattle.model.specs.Paths.{lineNumbers}
-use Rattle.model.specs.Outage.{impact, outageAmount, total}
+use Rattle.model.specs.Outage.{impact, outageAmount, total, figure}
 
 -- the outage amounts of the lines from one up to another, without it
 unfoldable pub amountsFrom : Network → ℕ → ℕ → ℕ
@@ -31,3 +31,8 @@ module _ (N : Network) where
   pub amount-is : (l w c : ℕ) → w ≡ numbered noLine (N .lines) l .weight → c ≡ impact N l → w * c ≡ outageAmount N l
   unfolding outageAmount
   amount-is l w c p q = ap₂ (λ x y. x * y) p q
+
+  -- the figure is one product
+  pub figure-is : (m t : ℕ) → m ≡ N .head .minutes → t ≡ total N → m * t ≡ figure N
+  unfolding figure
+  figure-is m t p q = ap₂ (λ x y. x * y) p q

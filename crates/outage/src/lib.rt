@@ -3,7 +3,7 @@ ghost use mathlib.Core.Path.{_≡_};
 ghost use Prim.Native.Nat.{_-_};
 ghost use lib.ListN.{length, getD};
 ghost use Rattle.model.specs.Paths.{state};
-ghost use Rattle.model.specs.Outage.{impact, outageAmount, total};
+ghost use Rattle.model.specs.Outage.{impact, outageAmount, total as totalOf, figure};
 ghost use Rattle.theory.specs.Reading.{Read};
 ghost use Rattle.theory.specs.Radial.{Rules};
 ghost use Rattle.theory.specs.Sizes.{Sized};
@@ -188,11 +188,19 @@ pub fn outage_amount(net: &[u64; 5129], impacts: &[u64; 768], line: usize) -> To
 // The total: the sum of the outage amounts of all lines.
 pub fn total_of(net: &[u64; 5129], impacts: &[u64; 768]) -> Total
     requires { ⌜ Read (networkIn (now net)) × HoldsImpacts (networkIn (now net)) (now impacts) ⌝ }
-    ensures { λ r. ⌜ r .0 ≡ total (networkIn (now (net .entry))) ⌝ }
+    ensures { λ r. ⌜ r .0 ≡ totalOf (networkIn (now (net .entry))) ⌝ }
 {
     let mut total = Total::ZERO;
     for line in 1..buffer::lines(net) + 1 {
         total = total.plus(outage_amount(net, impacts, line));
     }
     total
+}
+
+// The SAIDI figure of a network's total: minutes times the total.
+pub fn figure_of(net: &[u64; 5129], total: u64) -> u64
+    requires { ⌜ Read (networkIn (now net)) × (total ≡ totalOf (networkIn (now net))) ⌝ }
+    ensures { λ r. ⌜ r ≡ figure (networkIn (now (net .entry))) ⌝ }
+{
+    buffer::minutes(net) * total
 }

@@ -1,5 +1,5 @@
 -- The lines of a report, from the numbers that are printed.
-use Prim.Native.Nat.{ℕ, _*_}
+use Prim.Native.Nat.{ℕ}
 use mathlib.Core.Path.{_≡_, ap, ap₂, _∙_}
 use mathlib.Core.List.{List, [], _∷_, _++_}
 use lib.ListN.{length, drop}
@@ -13,13 +13,9 @@ pub same-text : (s t b d : List ℕ) (n : ℕ) → s ≡ t → n ≡ length s �
 same-text s t b d n e p q = (p ∙ ap length e, q ∙ ap (λ (l : List ℕ). l ++ drop (length l) b) e)
 
 module _ (N : Network) where
-  pub figure-is : (m t : ℕ) → m ≡ N .head .minutes → t ≡ total N → m * t ≡ figure N
-  unfolding figure
-  figure-is m t p q = ap₂ (λ x y. x * y) p q
-
-  pub lineA-is : (m t : ℕ) → m ≡ N .head .minutes → t ≡ total N → printedLine 65 (t ∷ m * t ∷ []) ≡ lineA N
+  pub lineA-is : (t g : ℕ) → t ≡ total N → g ≡ figure N → printedLine 65 (t ∷ g ∷ []) ≡ lineA N
   unfolding lineA
-  lineA-is m t p q = ap₂ (λ (x y : ℕ). printedLine 65 (x ∷ y ∷ [])) q (figure-is m t p q)
+  lineA-is t g p q = ap₂ (λ (x y : ℕ). printedLine 65 (x ∷ y ∷ [])) p q
 
   pub lineF-is : (l c a : ℕ) → c ≡ impact N l → a ≡ outageAmount N l → printedLine 70 (l ∷ c ∷ a ∷ []) ≡ lineF N l
   unfolding lineF

@@ -5,7 +5,7 @@ ghost use mathlib.Core.List.{[], _∷_, _++_, flatMap};
 ghost use Prim.Native.Nat.{_≤_};
 ghost use lib.ListN.{length, take, drop};
 ghost use Rattle.model.specs.Paths.{lineNumbers};
-ghost use Rattle.model.specs.Outage.{total as totalOf};
+ghost use Rattle.model.specs.Outage.{total as totalOf, figure as figureOf};
 ghost use Rattle.model.specs.Text.{printedLine, lineA, lineF, lineB, reportText};
 ghost use Rattle.theory.specs.Best.{Accepted};
 ghost use Rattle.buffer.specs.Buffer.{networkIn};
@@ -14,11 +14,10 @@ ghost use Rattle.outage.specs.Held.{HoldsImpacts};
 ghost use Rattle.report.specs.Ready.{ArePlaces, Answered};
 
 // The A line, with the total and the SAIDI figure, at the start of a buffer; answers its length.
-fn put_totals(net: &[u64; 5129], total: u64, buf: &mut [u8]) -> usize
-    requires { ⌜ Accepted (networkIn (now net)) × (total ≡ totalOf (networkIn (now net))) × (44 ≤ length (now buf)) ⌝ }
+fn put_totals(net: &[u64; 5129], total: u64, figure: u64, buf: &mut [u8]) -> usize
+    requires { ⌜ (total ≡ totalOf (networkIn (now net))) × (figure ≡ figureOf (networkIn (now net))) × (44 ≤ length (now buf)) ⌝ }
     ensures { λ r. ⌜ (r ≡ length (lineA (networkIn (now (net .entry))))) × (now (buf .exit) ≡ lineA (networkIn (now (net .entry))) ++ drop (length (lineA (networkIn (now (net .entry))))) (now (buf .entry))) × (r ≤ 44) ⌝ }
 {
-    let figure = buffer::minutes(net) * total;
     text::put_line(buf, b'A', &[total, figure])
 }
 
@@ -100,7 +99,8 @@ pub fn write_report(
     requires { ⌜ Answered (networkIn (now net)) (now impacts) total (now members) count best visits spent × (32768 ≤ length (now buf)) ⌝ }
     ensures { λ r. ⌜ (r ≡ length (reportText (networkIn (now (net .entry))))) × (now (buf .exit) ≡ reportText (networkIn (now (net .entry))) ++ drop (length (reportText (networkIn (now (net .entry))))) (now (buf .entry))) ⌝ }
 {
-    let mut at = put_totals(net, total, buf);
+    let figure = outage::figure_of(net, total);
+    let mut at = put_totals(net, total, figure, buf);
     at = at + put_faults(net, impacts, &mut buf[at..]);
     at = at + put_outcome(spent, visits, count, best, &mut buf[at..]);
     at + put_members(net, members, count, &mut buf[at..])

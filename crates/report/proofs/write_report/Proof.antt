@@ -13,6 +13,9 @@ use borrow.Author.Needs.{needs}
 use Rattle.report.proofs.write_report.Statement.{statement}
 use Rattle.report.proofs.write_report.Tie as tie
 
+figure-of-requires : tie.Need-figure-of-requires
+figure-of-requires c κs = search needs
+
 put-totals-requires : tie.Need-put-totals-requires
 put-totals-requires c κs = search needs
 
@@ -57,7 +60,7 @@ part-put-members-end c = search needs
 
 put-members-requires : tie.Need-put-members-requires
 put-members-requires c κs =
-    let s = c .before .before .before .before .before .before .before .before .before .before .before .before .before .before .before in
+    let s = c .before .before .before .before .before .before .before .before .before .before .before .before .before .before .before .before in
     let long : length (s .args .members .now) ≡ 16 = search needs in
     (are-places _ _ _ _ _ _ _ _ long (s .pre .0), long, s .pre .0 .few, search needs)
 
@@ -70,7 +73,7 @@ same-length c = search needs
 returns : tie.Need-returns
 unfolding over
 returns c =
-    let s = c .before .before .before .before .before .before .before .before .before .before .before .before .before .before .before .before .before .before in
+    let s = c .before .before .before .before .before .before .before .before .before .before .before .before .before .before .before .before .before .before .before in
     let long : length (s .args .members .now) ≡ 16 = search needs in
     let a = c .before .before .before .before .before .before .before .before .before .before .before .before .before .before .before .put-totals in
     let f = c .before .before .before .before .before .before .before .before .before .before .before .put-faults in
@@ -82,7 +85,7 @@ returns c =
     let F : List ℕ = flatMap (λ l. lineF N l) (lineNumbers N) in
     let C : List ℕ = printedLine 67 ((elim (s .args .spent) [ true ↦ 0 | false ↦ 1 ]) ∷ s .args .visits ∷ s .args .count ∷ s .args .best ∷ []) in
     let M : List ℕ = flatMap (λ p. lineB N p) (take (s .args .count) (s .args .members .now)) in
-    let t2 = behind A F b (a .last .1 .1 .0) (f .last .1 .1 .0) _ _ (a .ensures .0, a .ensures .1) (f .ensures .0) (f .ensures .1) in
+    let t2 = behind A F b (a .last .1 .1 .1 .0) (f .last .1 .1 .0) _ _ (a .ensures .0, a .ensures .1) (f .ensures .0) (f .ensures .1) in
     let t3 = behind (A ++ F) C b _ (o .last .1 .1 .1 .1 .0) _ _ t2 (o .ensures .0) (o .ensures .1) in
     let t4 = behind ((A ++ F) ++ C) M b _ (m .last .1 .1 .1 .0) _ _ t3 (m .ensures .0) (m .ensures .1) in
     same-text (((A ++ F) ++ C) ++ M) (reportText N) b _ _ (report-is _ _ _ _ _ _ _ _ long (s .pre .0)) (t4 .0) (t4 .1)
@@ -91,6 +94,7 @@ pub write-report-spec : {M : Type 1} → statement M
 write-report-spec =
     tie.close
     (tie.spec
+    figure-of-requires
     put-totals-requires
     sub-put-faults
     part-put-faults-start
