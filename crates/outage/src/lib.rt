@@ -1,4 +1,4 @@
-// The customers behind each line, the impact of a fault on it, and the total of the outage amounts.
+// The customers behind each line, the impact of a fault on it, the total of the outage amounts and the SAIDI figure.
 ghost use mathlib.Core.Path.{_≡_};
 ghost use Prim.Native.Nat.{_-_};
 ghost use lib.ListN.{length, getD};
