@@ -5,6 +5,7 @@ pub mod Stops
 pub mod Onward
 pub mod Sets
 pub mod Apart
+pub mod ByPlaces
 pub mod Start
 pub mod Held
 pub mod Meets

@@ -74,20 +74,23 @@ module _ (N : Network) (S : List ℕ) where
   unfolding allowed
   tests-allowed t = λ i. t .adds i && t .money i && t .hours i && t .series i
 
+-- if the series rule is broken with the first places of a set, it is with all of them
+pub series-prefix : (N : Network) (S T : List ℕ) → Valid N (S ++ T) → seriesBroken (withBreakers N S) ≡ true → seriesBroken (withBreakers N (S ++ T)) ≡ true
+series-prefix N S T v k =
+    let M : Network = withBreakers N S in
+    let u : Valid M T = valid-same M N (withBreakers-same S N (valid-left N S T v)) T (valid-right N S T v) in
+    ap seriesBroken (withBreakers-append S T N)
+    ∙ seriesBroken-grows (withBreakers M T) M (λ e b. withBreakers-breaker T M u e ∙ or-left (isBreaker M e) _ b) (withBreakers-same T M u) k
+
 -- the first places of an allowed set are an allowed set
 pub allowed-prefix : (N : Network) (S T : List ℕ) → Valid N (S ++ T) → allowed N (S ++ T) ≡ true → allowed N S ≡ true
 allowed-prefix N S T v h =
     let t : Tests N (S ++ T) = allowed-tests N (S ++ T) h in
-    let M : Network = withBreakers N S in
-    let u : Valid M T = valid-same M N (withBreakers-same S N (valid-left N S T v)) T (valid-right N S T v) in
-    let g : seriesBroken M ≡ true → seriesBroken (withBreakers N (S ++ T)) ≡ true
-    = λ k. ap seriesBroken (withBreakers-append S T N)
-    ∙ seriesBroken-grows (withBreakers M T) M (λ e b. withBreakers-breaker T M u e ∙ or-left (isBreaker M e) _ b) (withBreakers-same T M u) k in
     tests-allowed N S (record {
       adds = fits _ _ _ (N .head .adds) (length-append S T) (t .adds);
       money = fits _ _ _ (N .head .money) (sum-append (λ p. placeAt N p .cost) S T) (t .money);
       hours = fits _ _ _ (N .head .hours) (sum-append (λ p. placeAt N p .hours) S T) (t .hours);
-      series = kept (seriesBroken M) (seriesBroken (withBreakers N (S ++ T))) g (t .series);
+      series = kept (seriesBroken (withBreakers N S)) (seriesBroken (withBreakers N (S ++ T))) (series-prefix N S T v) (t .series);
     })
   where
     kept : (x y : Bool) → (x ≡ true → y ≡ true) → not y ≡ true → not x ≡ true
