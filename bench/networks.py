@@ -25,8 +25,9 @@ def feeding(shape, station, rng):
     return 1 if station <= 9 else station - 8  # near-ties: eight feeders alike
 
 
-def network(shape, stations=512, hanging=0, places=64, adds=16, visits=1, seed=1):
-    """A network with one HV station. `hanging` lines have an open far end. Places are on plain near ends."""
+def network(shape, stations=512, hanging=0, places=64, adds=16, visits=1, seed=3):
+    """A network with one HV station. `hanging` lines have an open far end. Places are on plain near ends. The arms of a star save
+    apart from each other, and the walk would end soon: it has money and hours for some ten of its places."""
     rng = random.Random(f"{shape} {stations} {seed}")
     alike = shape in ("near-ties", "star")
     roles = [(1, 0)] + [(0, 10 + station % 3 if alike else rng.randint(1, 60)) for station in range(2, stations + 1)]
@@ -42,4 +43,6 @@ def network(shape, stations=512, hanging=0, places=64, adds=16, visits=1, seed=1
         chosen = plain[:: max(1, len(plain) // places)][:places]
     else:
         chosen = rng.sample(plain, min(places, len(plain)))
-    return text(roles, lines, [(line, 1, rng.randint(1, 9), rng.randint(1, 9)) for line in chosen], adds, visits)
+    places = [(line, 1, rng.randint(1, 9), rng.randint(1, 9)) for line in chosen]
+    bounds = dict(money=45, hours=45) if shape == "star" else {}
+    return text(roles, lines, places, adds, visits, **bounds)

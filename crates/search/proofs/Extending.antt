@@ -1,7 +1,7 @@
 -- The loop over the later places.
 use Prim.Native.Nat.{ℕ, _+_, _*_, _-_, _≤_, _<_}
 use mathlib.Core.Path.{_≡_, refl, sym, ap, _∙_, subst}
-use mathlib.Core.Bool.{true, false}
+use mathlib.Core.Bool.{true}
 use mathlib.Core.Logic.{_⊎_, inl, inr, ⊎-elim}
 use mathlib.Core.List.{List, [], _∷_, _++_}
 use native.Mathlib.Numerals.{add-one}
@@ -11,13 +11,13 @@ use lib.Seq.{take-suc-set, take-set-le, take-take}
 use Rattle.model.specs.Network.{Network}
 use Rattle.model.specs.Sets.{withBreakers, allowed, setTotal}
 use Rattle.model.specs.Walk.{Found}
-use Rattle.walks.specs.Runs.{on-true, on-false}
+use Rattle.walks.specs.Runs.{on-true}
 use Rattle.theory.specs.Series.{series-rule, allowed-means}
 use Rattle.places.specs.Held.{Level}
 use Rattle.places.specs.Lists.{many, Row, SameUpTo}
 use Rattle.search.specs.Changes.{Changed, Undone}
 use Rattle.search.specs.Chosen.{Before, Chosen, Levelled, Entering, Entered}
-use Rattle.search.specs.Walking.{foundIn, visited, extended, tried, Counted, Trying, Next, Barren, Promising, Extending, Left}
+use Rattle.search.specs.Walking.{foundIn, visited, extended, tried, Counted, Standing, Trying, Next, Barren, Promising, Seeking, Sought, Extending, Left}
 use Rattle.search.specs.declared.Progress.{Progress}
 use Rattle.search.specs.declared.Current.{Current}
 use Rattle.search.proofs.OneMore.{before-later}
@@ -130,27 +130,45 @@ module _ {N : Network} {relations ends lists sums bounds level₀ saved₀ set�
     levelled : Levelled N level S (at .last) by
     levelled = ⊎-elim (λ s. rw (s .0, s .1) (x .standing .levelled)) (λ s. inl (s .0, s .3)) (g .state)
 
+    abbrev S' : List ℕ
+    S' = take (at .size) set'
+
+    standing : Standing N relations level set' at by
+    standing = record {
+      setLong = g .setLong;
+      chosen = rw (g .setSame) (x .standing .chosen);
+      levelled = rw (g .setSame) levelled;
+      total = x .standing .total ∙ ap (setTotal N) (sym (g .setSame));
+      cost = rw (g .setSame) (x .standing .cost);
+      hours = rw (g .setSame) (x .standing .hours);
+      affordable = x .standing .affordable;
+      timely = x .standing .timely;
+    }
+
+    -- the next place is sought from here on
+    pub seeking : Seeking N relations bounds level set' at by place left p
+    seeking = record { standing = standing; table = x .table; counted = g .counted; low = omega (arith, x .low, g .low); high = g .within; few = x .few }
+
+    -- and the walk has come to it
+    pub going-sought : {next : ℕ} → Sought N S' (at .total .0) place left p next → Going N lists level₀ saved₀ set₀ at from left f₀ next p by level saved set' best
+    going-sought {next} s = record {
+      low = omega (arith, g .low, s .low);
+      within = s .high;
+      counted = g .counted;
+      bestLong = g .bestLong;
+      setLong = g .setLong;
+      setSame = g .setSame;
+      levelLong = g .levelLong;
+      savedLong = g .savedLong;
+      savedSame = g .savedSame;
+      state = g .state;
+      same = subst (λ U. extended N left U next f ≡ extended N left U place f) (g .setSame) (s .same f refl refl) ∙ g .same;
+    }
+
     module _ (h : Promising N (p .spent) (p .best .0) (at .total .0) place left) where
       -- the place is tried
       pub trying : Trying N relations level set' at by place
-      trying = record {
-        standing = record {
-          setLong = g .setLong;
-          chosen = rw (g .setSame) (x .standing .chosen);
-          levelled = rw (g .setSame) levelled;
-          total = x .standing .total ∙ ap (setTotal N) (sym (g .setSame));
-          cost = rw (g .setSame) (x .standing .cost);
-          hours = rw (g .setSame) (x .standing .hours);
-          affordable = x .standing .affordable;
-          timely = x .standing .timely;
-        };
-        low = omega (arith, x .low, g .low);
-        high = h .high;
-        few = omega (arith, x .few, h .some);
-      }
-
-      abbrev S' : List ℕ
-      S' = take (at .size) set'
+      trying = record { standing = standing; low = omega (arith, x .low, g .low); high = h .high; few = omega (arith, x .few, h .some) }
 
       abbrev T : List ℕ
       T = S' ++ (place ∷ [])
@@ -182,22 +200,6 @@ module _ {N : Network} {relations ends lists sums bounds level₀ saved₀ set�
           ap (λ U. extended N left S (place + 1) (tried N (left - 1) U place f)) (g .setSame)
           ∙ sym (go-on N S left place (h .high) (h .some) f (h .unspent) (omega (arith, h .hope, x .standing .total)))
           ∙ g .same
-
-      pub on-barred : allowed N T ≡ false → On p by level saved set' best
-      unfolding tried
-      on-barred b = record {
-        low = omega (arith, g .low);
-        within = omega (arith, h .high);
-        counted = g .counted;
-        bestLong = g .bestLong;
-        setLong = g .setLong;
-        setSame = g .setSame;
-        levelLong = g .levelLong;
-        savedLong = g .savedLong;
-        savedSame = g .savedSame;
-        state = g .state;
-        same = ap (extended N left S (place + 1)) (sym (on-false _ _ b)) ∙ tried-is;
-      }
 
       -- the set with the place is visited
       module _ (b : allowed N T ≡ true) {next : Current} (n : Next N set' at place next) (q : Progress) (best₁ : List ℕ) (long : length best₁ ≡ 16) (k : Counted N q)

@@ -12,5 +12,6 @@ pub mod Entering
 pub mod Trying
 pub mod Saving
 pub mod Bounding
+pub mod Seeking
 pub mod Extending
 pub mod Starting

@@ -91,6 +91,22 @@ pub record Promising (N : Network) (spent : Bool) (best total from left : ℕ) :
   pub unspent : spent ≡ false
   pub hope : total < best + mostSaved N left from
 
+-- the set may get `left` more, and the places from `from` on are tried
+pub record Seeking (N : Network) (relations bounds level set : List ℕ) (at : Current) (by from left : ℕ) (p : Progress) : Type 0 where
+  pub standing : Standing N relations level set at by
+  pub table : HoldsBounds N bounds
+  pub counted : Counted N p
+  pub low : at .last < from
+  pub high : from ≤ length (N .places) + 1
+  pub few : at .size + left ≡ N .head .adds
+
+-- without the places before the next the walk finds the same, and the set may get the next, where that may do better than the best
+pub record Sought (N : Network) (S : List ℕ) (total from left : ℕ) (p : Progress) (next : ℕ) : Type 0 where
+  pub low : from ≤ next
+  pub high : next ≤ length (N .places) + 1
+  pub same : (f : Found) → f .spent ≡ p .spent → f .best ≡ p .best .0 → extended N left S next f ≡ extended N left S from f
+  pub fitting : Promising N (p .spent) (p .best .0) total next left → allowed N (S ++ (next ∷ [])) ≡ true
+
 -- the set may get `left` more of the places from `from` on
 pub record Extending (N : Network) (relations ends lists sums bounds level saved set : List ℕ) (at : Current) (from left : ℕ) : Type 0 where
   pub coded : HoldsEnds N ends

@@ -23,7 +23,7 @@ ghost use Rattle.places.specs.Lists.{many, Row};
 ghost use Rattle.search.specs.Bounds.{Small, Savings, Column, Bounds};
 ghost use Rattle.search.specs.Changes.{Put, Keeping, Undone};
 ghost use Rattle.search.specs.Chosen.{Later, Entering, Entered, Tables};
-ghost use Rattle.search.specs.Walking.{foundIn, visited, extended, mostSaved, Counted, HoldsBounds, Trying, Next, Barren, Promising, Extending, Left, Starting};
+ghost use Rattle.search.specs.Walking.{foundIn, visited, extended, mostSaved, Counted, HoldsBounds, Trying, Next, Barren, Promising, Seeking, Sought, Extending, Left, Starting};
 use amounts::Customers;
 use amounts::Total;
 use amounts::Weight;
@@ -453,6 +453,32 @@ fn goes_deeper(
     goes_on(net, bounds, total, place + 1, left, found)
 }
 
+// The next place from `from` on that the set may get, unless the set is not to be extended from there on.
+fn next_place(
+    net: &[u64; 5129],
+    relations: &[u64; 4225],
+    bounds: &[u64; 1105],
+    level: &[u64; 195],
+    set: &[u64; 16],
+    current: Current,
+    by: usize,
+    from: usize,
+    left: usize,
+    found: Progress,
+) -> usize
+    requires { ⌜ Seeking (networkIn (now net)) (now relations) (now bounds) (now level) (now set) current by from left found ⌝ }
+    ensures { λ r. ⌜ Sought (networkIn (now (net .entry))) (take (current .size) (now (set .entry))) (current .total .0) from left found r ⌝ }
+{
+    let mut place = from;
+    while goes_on(net, bounds, current.total, place, left, found) {
+        if may_get(net, relations, level, set, current, by, place) {
+            return place;
+        }
+        place += 1;
+    }
+    place
+}
+
 // Extends the current set, which may get `left` more places, by each of the places from `from` on in rising order.
 fn extend(
     net: &[u64; 5129],
@@ -476,34 +502,55 @@ fn extend(
     let size = current.size;
     let mut found = progress;
     let mut by = current.last;
-    let mut place = from;
+    let mut place = next_place(
+        net,
+        relations,
+        bounds,
+        level,
+        set,
+        current,
+        by,
+        from,
+        left,
+        found,
+    );
     while goes_on(net, bounds, current.total, place, left, found) {
-        if may_get(net, relations, level, set, current, by, place) {
-            let next = with_place(net, relations, ends, sums, level, set, current, by, place);
-            set[size] = place as u64;
-            found = visit(net, set, size + 1, next.total, best, found);
-            if goes_deeper(net, bounds, next.total, place, left - 1, found) {
-                enter_once(net, relations, ends, lists, level, saved, set, size, by);
-                by = 0;
-                found = extend(
-                    net,
-                    relations,
-                    ends,
-                    lists,
-                    sums,
-                    bounds,
-                    level,
-                    saved,
-                    set,
-                    best,
-                    next,
-                    place + 1,
-                    left - 1,
-                    found,
-                );
-            }
+        let next = with_place(net, relations, ends, sums, level, set, current, by, place);
+        set[size] = place as u64;
+        found = visit(net, set, size + 1, next.total, best, found);
+        if goes_deeper(net, bounds, next.total, place, left - 1, found) {
+            enter_once(net, relations, ends, lists, level, saved, set, size, by);
+            by = 0;
+            found = extend(
+                net,
+                relations,
+                ends,
+                lists,
+                sums,
+                bounds,
+                level,
+                saved,
+                set,
+                best,
+                next,
+                place + 1,
+                left - 1,
+                found,
+            );
         }
-        place += 1;
+        let after = place + 1;
+        place = next_place(
+            net,
+            relations,
+            bounds,
+            level,
+            set,
+            current,
+            by,
+            after,
+            left,
+            found,
+        );
     }
     if by != current.last {
         leave(lists, level, saved, size, current.last);
