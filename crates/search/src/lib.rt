@@ -1,5 +1,6 @@
 // The search: a walk over sets of places. A level has what is known of the later places with the set on the way. It changes as the
 // walk goes on to a larger set, and what changed is put back as the walk comes back.
+// Where a function takes `by`, that is the set's last member if the level is still without it, and 0 if the level is the set's own.
 ghost use mathlib.Core.Path.{_≡_};
 ghost use mathlib.Core.Bool.{true, false, _&&_};
 ghost use mathlib.Core.Logic.{_⊎_};
