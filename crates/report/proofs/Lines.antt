@@ -1,16 +1,11 @@
 -- The lines of a report, from the numbers that are printed.
 use Prim.Native.Nat.{ℕ}
-use mathlib.Core.Path.{_≡_, ap, ap₂, _∙_}
-use mathlib.Core.List.{List, [], _∷_, _++_}
-use lib.ListN.{length, drop}
+use mathlib.Core.Path.{_≡_, ap, ap₂}
+use mathlib.Core.List.{[], _∷_}
 use Rattle.model.specs.Network.{Network}
 use Rattle.model.specs.Outage.{impact, outageAmount, total, figure}
 use Rattle.model.specs.Sets.{placeAt}
 use Rattle.model.specs.Text.{printedLine, lineA, lineF, lineB}
-
--- a text over the start of a list is an equal text over it
-pub same-text : (s t b d : List ℕ) (n : ℕ) → s ≡ t → n ≡ length s → d ≡ s ++ drop (length s) b → (n ≡ length t) × (d ≡ t ++ drop (length t) b)
-same-text s t b d n e p q = (p ∙ ap length e, q ∙ ap (λ (l : List ℕ). l ++ drop (length l) b) e)
 
 module _ (N : Network) where
   pub lineA-is : (t g : ℕ) → t ≡ total N → g ≡ figure N → printedLine 65 (t ∷ g ∷ []) ≡ lineA N

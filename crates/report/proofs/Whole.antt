@@ -1,12 +1,11 @@
 -- The parts of a report, one behind another.
-use Prim.Native.Nat.{ℕ, zero, suc, _+_, _-_, _≤_, _<_}
+use Prim.Native.Nat.{ℕ, zero, suc, _≤_, _<_}
 use mathlib.Core.Path.{_≡_, sym, ap, _∙_}
 use mathlib.Core.Bool.{Bool, true, false}
 use mathlib.Core.List.{List, [], _∷_, _++_, flatMap, Sublistᴰ, Sublistᴰ·slnil, Sublistᴰ·cons, Sublistᴰ·cons-cons, List·Memᴰ, List·Memᴰ·head, List·Memᴰ·tail}
 use native.Mathlib.Omega.{arith}
-use lib.ListN.{length, getD, take, drop, length-append}
+use lib.ListN.{length, getD, take}
 use lib.Seq.{length-take-le, getD-take}
-use borrow.Rule.Slice.PartMut.{putMid}
 use Rattle.model.specs.Network.{Network}
 use Rattle.model.specs.Paths.{lineNumbers}
 use Rattle.model.specs.Sets.{placeNumbers}
@@ -16,13 +15,7 @@ use Rattle.theory.specs.Ends.{numbers-in}
 use Rattle.theory.specs.Best.{search-answered}
 use Rattle.buffer.specs.Buffer.{networkIn}
 use Rattle.outage.proofs.Calls.{read-fits}
-use Rattle.text.proofs.Over.{over, over-part}
 use Rattle.report.specs.Ready.{ArePlaces, Answered}
-
--- a text behind another
-pub behind : (s t b w d : List ℕ) (q n : ℕ) → (q ≡ length s) × (w ≡ over s b) → n ≡ length t → d ≡ over t (take (length w - q) (drop q w))
-    → (q + n ≡ length (s ++ t)) × (putMid q (length w - q) w d ≡ over (s ++ t) b)
-behind s t b w d q n g en e = (omega (arith, g .0, length-append s t), over-part s b w q (g .1) (g .0) t d e)
 
 -- what every element of a list has, every element of a part of it has
 part-has : (P : ℕ → Type 0) {S xs : List ℕ} → Sublistᴰ S xs → ((p : ℕ) → List·Memᴰ p xs → P p) → (i : ℕ) → i < length S → P (getD S i 0)

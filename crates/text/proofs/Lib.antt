@@ -1,3 +1,4 @@
 pub mod Decimals
 pub mod Lines
 pub mod Over
+pub mod Listing

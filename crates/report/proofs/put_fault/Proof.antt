@@ -4,7 +4,8 @@ use Rattle.theory.specs.Sizes.{read-sized}
 use Rattle.theory.specs.TextSizes.{lineF-length}
 use Rattle.buffer.specs.Buffer.{networkIn}
 use Rattle.outage.proofs.Calls.{read-fits}
-use Rattle.report.proofs.Lines.{same-text, lineF-is}
+use Rattle.text.proofs.Listing.{same-text}
+use Rattle.report.proofs.Lines.{lineF-is}
 use borrow.Author.Needs.{needs}
 use Rattle.report.proofs.put_fault.Statement.{statement}
 use Rattle.report.proofs.put_fault.Tie as tie

@@ -8,7 +8,7 @@ use Rattle.model.specs.Text.{lineF}
 use Rattle.theory.specs.Sizes.{read-sized}
 use Rattle.buffer.specs.Buffer.{networkIn}
 use Rattle.text.proofs.Over.{over}
-use Rattle.report.proofs.Listing.{Listed, listed-none, listed-more, listed-all, lines-length, line-is}
+use Rattle.text.proofs.Listing.{Listed, listed-none, listed-more, listed-all, lines-length, line-is}
 use Rattle.report.proofs.put_faults.Statement.{statement}
 use Rattle.report.proofs.put_faults.Tie as tie
 

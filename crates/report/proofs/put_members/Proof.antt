@@ -7,7 +7,7 @@ use lib.Seq.{length-take-le, getD-take}
 use Rattle.model.specs.Text.{lineB}
 use Rattle.buffer.specs.Buffer.{networkIn}
 use Rattle.text.proofs.Over.{over}
-use Rattle.report.proofs.Listing.{Listed, listed-none, listed-more, listed-all}
+use Rattle.text.proofs.Listing.{Listed, listed-none, listed-more, listed-all}
 use Rattle.report.proofs.put_members.Statement.{statement}
 use Rattle.report.proofs.put_members.Tie as tie
 

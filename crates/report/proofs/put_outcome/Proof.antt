@@ -1,5 +1,6 @@
 use native.Mathlib.Omega.{arith}
-use Rattle.report.proofs.Lines.{same-text, outcome-is}
+use Rattle.text.proofs.Listing.{same-text}
+use Rattle.report.proofs.Lines.{outcome-is}
 use borrow.Author.Needs.{needs}
 use Rattle.report.proofs.put_outcome.Statement.{statement}
 use Rattle.report.proofs.put_outcome.Tie as tie

@@ -1,6 +1,7 @@
 use native.Mathlib.Omega.{arith}
 use Rattle.buffer.specs.Buffer.{networkIn}
-use Rattle.report.proofs.Lines.{same-text, lineA-is}
+use Rattle.text.proofs.Listing.{same-text}
+use Rattle.report.proofs.Lines.{lineA-is}
 use borrow.Author.Needs.{needs}
 use Rattle.report.proofs.put_totals.Statement.{statement}
 use Rattle.report.proofs.put_totals.Tie as tie

@@ -7,8 +7,8 @@ use Rattle.model.specs.Paths.{lineNumbers}
 use Rattle.model.specs.Text.{printedLine, lineA, lineF, lineB, reportText}
 use Rattle.buffer.specs.Buffer.{networkIn}
 use Rattle.text.proofs.Over.{over}
-use Rattle.report.proofs.Lines.{same-text}
-use Rattle.report.proofs.Whole.{behind, are-places, report-is}
+use Rattle.text.proofs.Listing.{same-text, behind}
+use Rattle.report.proofs.Whole.{are-places, report-is}
 use borrow.Author.Needs.{needs}
 use Rattle.report.proofs.write_report.Statement.{statement}
 use Rattle.report.proofs.write_report.Tie as tie

@@ -1,6 +1,6 @@
 -- The texts of a list's elements, one behind another at the start of a buffer.
 use Prim.Native.Nat.{ℕ, zero, suc, _+_, _-_, _≤_, _<_}
-use mathlib.Core.Path.{_≡_, refl, ap, _∙_}
+use mathlib.Core.Path.{_≡_, refl, ap, _∙_, subst}
 use mathlib.Core.List.{List, _++_, append-nil, flatMap}
 use native.Mathlib.Numerals.{add-one}
 use native.Mathlib.Omega.{arith}
@@ -11,14 +11,26 @@ use Rattle.model.specs.Lists.{numbers}
 use Rattle.model.specs.Network.{Network}
 use Rattle.model.specs.Paths.{lineNumbers}
 use Rattle.theory.specs.Sizes.{numbers-length}
 use Rattle.text.proofs.Over.{over, over-length, over-part}
 use Rattle.text.proofs.Lines.{flatMap-append}
+
+-- a text over the start of a list is an equal text over it
+pub same-text : (s t b d : List ℕ) (n : ℕ) → s ≡ t → n ≡ length s → d ≡ s ++ drop (length s) b → (n ≡ length t) × (d ≡ t ++ drop (length t) b)
+same-text s t b d n e p q = (p ∙ ap length e, q ∙ ap (λ (l : List ℕ). l ++ drop (length l) b) e)
+
+-- a text behind another
+pub behind : (s t b w d : List ℕ) (q n : ℕ) → (q ≡ length s) × (w ≡ over s b) → n ≡ length t → d ≡ over t (take (length w - q) (drop q w))
+    → (q + n ≡ length (s ++ t)) × (putMid q (length w - q) w d ≡ over (s ++ t) b)
+behind s t b w d q n g en e = (omega (arith, g .0, length-append s t), over-part s b w q (g .1) (g .0) t d e)
 
 -- w is the list b with the texts of the first i elements, `at` bytes, over its start
 pub record Listed (f : ℕ → List ℕ) (xs b w : List ℕ) (at i : ℕ) : Type 0 where
   pub long : length w ≡ length b
   pub here : at ≡ length (flatMap f (take i xs))
   pub is : w ≡ over (flatMap f (take i xs)) b
+
+pub listed-at : {f : ℕ → List ℕ} {xs b w : List ℕ} {at i j : ℕ} → i ≡ j → Listed f xs b w at i → Listed f xs b w at j
+listed-at {f} {xs} {b} {w} {at} e g = subst (Listed f xs b w at) e g
 
 module _ (f : ℕ → List ℕ) (xs b : List ℕ) where
   pub listed-none : Listed f xs b b 0 0
