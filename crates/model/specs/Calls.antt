@@ -1,4 +1,4 @@
--- The six calls: what each answers and what it leaves in a lent buffer, for every input ("Calls", "Refusals and their places").
+-- The seven calls: what each answers and what it leaves in a lent buffer, for every input ("Calls", "Refusals and their places").
 -- For each call, `..Says` gives the specification's numbers and values for each case of the declared answer; a contract states
 -- that the answer says what is defined here.
 use Prim.Native.Nat.{ℕ}
@@ -12,12 +12,14 @@ use Rattle.model.specs.Rules.{accepted}
 use Rattle.model.specs.Outage.{impact, total, figure}
 use Rattle.model.specs.Walk.{Found, search}
 use Rattle.model.specs.Text.{reportText, lineX}
+use Rattle.model.specs.Segments.{breakerEnds, segmentTable}
 use Rattle.model.specs.Ceiling.{setCount}
 use Rattle.model.specs.declared.CheckAnswer.{CheckAnswer}
 use Rattle.model.specs.declared.ImpactAnswer.{ImpactAnswer}
 use Rattle.model.specs.declared.TotalAnswer.{TotalAnswer}
 use Rattle.model.specs.declared.SearchAnswer.{SearchAnswer}
 use Rattle.model.specs.declared.ReportAnswer.{ReportAnswer}
+use Rattle.model.specs.declared.SegmentsAnswer.{SegmentsAnswer}
 use Rattle.model.specs.declared.CeilingAnswer.{CeilingAnswer}
 
 -- Check answers accepted.
@@ -108,6 +110,23 @@ reportLeaves file buffer = written (reported file buffer) buffer
 unfoldable pub reportSays : ReportAnswer → Answer ℕ
 reportSays (ReportAnswer.Written n) = given n
 reportSays (ReportAnswer.Refused number place) = refused number place
+
+-- Segments writes the segment table and answers how many entries it has.
+unfoldable pub segmented : List ℕ → List ℕ → Answer Network
+unfolding lent accepted
+segmented file buffer = lent 7680 buffer (accepted file)
+
+unfoldable pub segmentsAnswered : List ℕ → List ℕ → Answer ℕ
+unfolding segmented breakerEnds
+segmentsAnswered file buffer = segmented file buffer >>= λ N. given (length (breakerEnds N))
+
+unfoldable pub segmentsLeaves : List ℕ → List ℕ → List ℕ
+unfolding segmented segmentTable written
+segmentsLeaves file buffer = written (segmented file buffer >>= λ N. given (segmentTable N)) buffer
+
+unfoldable pub segmentsSays : SegmentsAnswer → Answer ℕ
+segmentsSays (SegmentsAnswer.Entries n) = given n
+segmentsSays (SegmentsAnswer.Refused number place) = refused number place
 
 -- Ceiling takes 0–64 places and 0–16 additions, and refuses other numbers as Impact does.
 unfoldable pub ceilingAnswered : ℕ → ℕ → Answer ℕ

@@ -1,4 +1,4 @@
--- The marked cases a to l ("File K and its kin"): one list, and one test of it that computes.
+-- The marked cases a to l ("File K and its kin"): one list, and one test of it that computes. Segment tables: another.
 use Prim.Native.Nat.{ℕ}
 use Prim.Native.Char.{code}
 use Prim.Native.String.{String, [] as []ˢ, _∷_ as _∷ˢ_, _++_ as _++ˢ_}
@@ -10,7 +10,8 @@ use lib.Dec.{eqb}
 use Rattle.model.specs.Lists.{all}
 use Rattle.model.specs.Answer.{Answer, given, refused, _>>=_}
 use Rattle.model.specs.Text.{finishedNumber}
-use Rattle.model.specs.Calls.{checked, impactAnswered, totalled, searched, reported, ceilingAnswered}
+use Rattle.model.specs.Segments.{segmentTable}
+use Rattle.model.specs.Calls.{checked, impactAnswered, totalled, searched, reported, segmented, ceilingAnswered}
 
 -- the bytes of a text in which `|` stands for a newline
 bytes : String → List ℕ
@@ -24,6 +25,7 @@ data Call : Type 0 where
   Total : Call
   Search : Call
   Report : Call
+  Segments : Call
   Ceiling : ℕ → ℕ → Call
 
 -- a buffer that is long enough for every call
@@ -37,6 +39,7 @@ answers Total file = totalled file >>= λ t. given (t .total ∷ t .figure ∷ [
 -- in the order of the report's line C, and then the members
 answers Search file = searched file room >>= λ f. given (finishedNumber f ∷ f .visits ∷ length (f .members) ∷ f .best ∷ f .members)
 answers Report file = reported file room
+answers Segments file = segmented file room >>= λ N. given (segmentTable N)
 answers (Ceiling places additions) file = ceilingAnswered places additions >>= λ n. given (n ∷ [])
 
 -- two answers are the same
@@ -69,6 +72,10 @@ K = kin "N,4,3,90,3,1,10,8,100" ""
 
 K4 : String → String
 K4 fourth = kin "N,4,4,90,3,1,10,8,100" fourth
+
+-- file K with its lines 2 and 3 changed, and without places
+three : String → String
+three lines = "N,4,3,90,3,1,10,8,100|S,1,0|S,0,10|S,0,20|S,0,30|L,2,1,2,1,0|" ++ˢ lines
 
 infix 70 _asked_gives_
 _asked_gives_ : String → Call → Answer (List ℕ) → Case
@@ -108,3 +115,20 @@ cases =
 marked-cases : all passes cases ≡ true
 unfolding all cases passes same sameList answers bytes room kin K K4 _asked_gives_ checked impactAnswered totalled searched reported ceilingAnswered
 marked-cases = refl
+
+-- the segment table of K; with a second breaker, at line 2, 3, or the far end of line 2; with a line that hangs behind a breaker of its
+-- own; with breakers at both ends of one line; without a line
+tables : List Case
+tables =
+    K asked Segments gives given (1 ∷ 1 ∷ 10 ∷ 60 ∷ 600 ∷ [])
+    ∷ three "L,3,2,3,1,0|L,5,3,4,0,0|" asked Segments gives given (1 ∷ 1 ∷ 2 ∷ 60 ∷ 120 ∷ 2 ∷ 1 ∷ 8 ∷ 50 ∷ 400 ∷ [])
+    ∷ three "L,3,2,3,0,0|L,5,3,4,1,0|" asked Segments gives given (1 ∷ 1 ∷ 5 ∷ 60 ∷ 300 ∷ 3 ∷ 1 ∷ 5 ∷ 30 ∷ 150 ∷ [])
+    ∷ three "L,3,2,3,0,1|L,5,3,4,0,0|" asked Segments gives given (1 ∷ 1 ∷ 5 ∷ 60 ∷ 300 ∷ 2 ∷ 2 ∷ 5 ∷ 50 ∷ 250 ∷ [])
+    ∷ K4 "L,7,4,1,2,1|" asked Segments gives given (1 ∷ 1 ∷ 10 ∷ 60 ∷ 600 ∷ 4 ∷ 2 ∷ 7 ∷ 0 ∷ 0 ∷ [])
+    ∷ "N,2,1,90,3,0,0,0,1|S,1,0|S,0,5|L,3,1,2,1,1|" asked Segments gives given (1 ∷ 1 ∷ 3 ∷ 5 ∷ 15 ∷ 1 ∷ 2 ∷ 0 ∷ 5 ∷ 0 ∷ [])
+    ∷ "N,1,0,90,3,0,0,0,1|S,1,0|" asked Segments gives given []
+    ∷ []
+
+marked-tables : all passes tables ≡ true
+unfolding all tables passes same sameList answers bytes room kin K K4 three _asked_gives_ segmented segmentTable
+marked-tables = refl

@@ -6,6 +6,7 @@ pub mod Network
 pub mod Paths
 pub mod Rules
 pub mod Outage
+pub mod Segments
 pub mod Sets
 pub mod Walk
 pub mod Text

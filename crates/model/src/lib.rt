@@ -14,7 +14,7 @@ pub struct Range {
     pub largest: Largest,
 }
 
-// The answers of the six calls. specs/Calls.antt gives the specification's numbers and values for each case.
+// The answers of the seven calls. specs/Calls.antt gives the specification's numbers and values for each case.
 
 // Check: the file is accepted.
 pub enum CheckAnswer {
@@ -55,6 +55,12 @@ pub enum SearchAnswer {
 // Report: how many bytes were written.
 pub enum ReportAnswer {
     Written(usize),
+    Refused { number: u64, record: u64 },
+}
+
+// Segments: how many entries the segment table has.
+pub enum SegmentsAnswer {
+    Entries(usize),
     Refused { number: u64, record: u64 },
 }
 

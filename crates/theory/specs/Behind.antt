@@ -79,7 +79,7 @@ numbers-once from zero = tt
 numbers-once from (suc count) = (none-of from (numbers (from + 1) count) (λ y m e. omega (arith, numbers-in y (from + 1) count m .0)), numbers-once (from + 1) count)
 
 -- both ends of each line
-ends-once : (ls : List ℕ) → NoRepeat ls → NoRepeat (flatMap (λ l. end1 l ∷ end2 l ∷ []) ls)
+pub ends-once : (ls : List ℕ) → NoRepeat ls → NoRepeat (flatMap (λ l. end1 l ∷ end2 l ∷ []) ls)
 unfolding flatMap
 ends-once [] n = tt
 ends-once (l ∷ ls) n = append-once (end1 l ∷ end2 l ∷ []) (flatMap (λ l. end1 l ∷ end2 l ∷ []) ls)
@@ -92,7 +92,7 @@ ends-once (l ∷ ls) n = append-once (end1 l ∷ end2 l ∷ []) (flatMap (λ l. 
 -- ── sums ──
 module _ {A : Type 0} where
   -- the sum over the elements that pass a test
-  kept-sum : (f : A → ℕ) (test : A → Bool) (xs : List A) → sum (map f (keep test xs)) ≡ sumOver (λ x. on (test x) (f x)) xs
+  pub kept-sum : (f : A → ℕ) (test : A → Bool) (xs : List A) → sum (map f (keep test xs)) ≡ sumOver (λ x. on (test x) (f x)) xs
   unfolding sum keep
   kept-sum f test [] = refl
   kept-sum f test (x ∷ xs) = go (test x) (kept-sum f test xs)

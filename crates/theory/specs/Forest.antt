@@ -21,7 +21,7 @@ use Rattle.theory.specs.Ends.{any-in, end-discrete, Joins, out, into, jo
 use Rattle.theory.specs.Radial.{Rules, In, Root, line-fits, joins-in, path-listed, no-cycle, lone}
 
 -- the first element that passes a test, where some does
-firstOr-found : {A : Type 0} (other : A) (test : A → Bool) (xs : List A) → any test xs ≡ true → List·Memᴰ (firstOr other test xs) xs × (test (firstOr other test xs) ≡ true)
+pub firstOr-found : {A : Type 0} (other : A) (test : A → Bool) (xs : List A) → any test xs ≡ true → List·Memᴰ (firstOr other test xs) xs × (test (firstOr other test xs) ≡ true)
 unfolding any firstOr
 firstOr-found other test [] h = absurd (true≢false (sym h))
 firstOr-found {A} other test (x ∷ xs) h = go (test x) refl (λ k. firstOr-found other test xs k)

@@ -9,4 +9,5 @@ pub mod Labels
 pub mod Behind
 pub mod With
 pub mod Best
+pub mod Segments
 pub mod TextSizes

@@ -23,7 +23,7 @@ numbers-length from zero = refl
 numbers-length from (suc count) = ap suc (numbers-length (from + 1) count)
 
 -- a sum of values up to `most`
-sum-most : {A : Type 0} (f : A → ℕ) (most : ℕ) → ((x : A) → f x ≤ most) → (xs : List A) → sum (map f xs) ≤ length xs * most
+pub sum-most : {A : Type 0} (f : A → ℕ) (most : ℕ) → ((x : A) → f x ≤ most) → (xs : List A) → sum (map f xs) ≤ length xs * most
 unfolding sum
 sum-most f most h [] = omega arith
 sum-most f most h (x ∷ xs) = omega (arith, h x, sum-most f most h xs)
