@@ -3,7 +3,7 @@
 ghost use mathlib.Core.Path.{_≡_};
 ghost use Prim.Native.Nat.{ℕ, _≤_};
 ghost use lib.ListN.{length};
-ghost use Rattle.model.specs.Paths.{state, stationAt, isHV, customersOf};
+ghost use Rattle.model.specs.Paths.{state, isBreaker, stationAt, isHV, customersOf};
 ghost use Rattle.model.specs.Sets.{placeAt};
 ghost use Rattle.buffer.specs.Buffer.{networkIn};
 ghost use Rattle.buffer.specs.Fits.{Fits, StationThere, LineThere, EndThere, PlaceThere, lineIn, endIn};
@@ -66,6 +66,14 @@ pub fn end_state(net: &[u64; 5129], line: usize, side: usize) -> u64
     ensures { λ r. ⌜ r ≡ state (networkIn (now (net .entry))) (endIn line side) ⌝ }
 {
     net[5 * line + side + 1030]
+}
+
+// Whether an end, 1 or 2, of a line is a breaker.
+pub fn is_breaker(net: &[u64; 5129], line: usize, side: usize) -> bool
+    requires { ⌜ EndThere (now net) line side ⌝ }
+    ensures { λ r. ⌜ r ≡ isBreaker (networkIn (now (net .entry))) (endIn line side) ⌝ }
+{
+    end_state(net, line, side) == 1
 }
 
 // The station that an end, 1 or 2, of a line is at.

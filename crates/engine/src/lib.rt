@@ -150,6 +150,23 @@ pub fn check(file: &[u8]) -> CheckAnswer
     )
 }
 
+// The impact of a fault on each line of an accepted network, from the customers behind each line.
+fn line_impacts(
+    net: &[u64; 5129],
+    near: &[u64; 768],
+    feed: &[u64; 768],
+    order: &[u64; 768],
+    sums: &[u64; 768],
+    out: &mut [u64; 768],
+)
+    requires { ⌜ Accepted (networkIn (now net)) × Outwards (networkIn (now net)) (now near) (now feed) (now order) × HoldsCustomers (networkIn (now net)) (now sums) ⌝ }
+    ensures { λ r. ⌜ HoldsImpacts (networkIn (now (net .entry))) (now (out .exit)) ⌝ }
+{
+    let mut trips = lines_space();
+    outage::trips(net, near, feed, order, &mut trips);
+    outage::impacts(net, &trips, sums, out);
+}
+
 // The impact of a fault on each line of an accepted network.
 fn impacts(
     net: &[u64; 5129],
@@ -165,7 +182,7 @@ fn impacts(
 {
     let mut sums = lines_space();
     outage::customers_behind(net, heads, nexts, &mut sums);
-    outage::impacts(net, near, feed, order, &sums, out);
+    line_impacts(net, near, feed, order, &sums, out);
 }
 
 // Reads and checks a file. Where it is accepted, its network and the impact of a fault on each line are left in the buffers.
@@ -323,7 +340,7 @@ fn search_network(
     let mut sums = lines_space();
     outage::customers_behind(net, heads, nexts, &mut sums);
     let mut impacts = lines_space();
-    outage::impacts(net, near, feed, order, &sums, &mut impacts);
+    line_impacts(net, near, feed, order, &sums, &mut impacts);
     let total = outage::total_of(net, &impacts);
     walk(net, near, feed, order, &sums, total, best)
 }
@@ -414,7 +431,7 @@ fn report_network(
     let mut sums = lines_space();
     outage::customers_behind(net, heads, nexts, &mut sums);
     let mut impacts = lines_space();
-    outage::impacts(net, near, feed, order, &sums, &mut impacts);
+    line_impacts(net, near, feed, order, &sums, &mut impacts);
     let total = outage::total_of(net, &impacts);
     let mut best = [0u64; 16];
     let found = walk(net, near, feed, order, &sums, total, &mut best);

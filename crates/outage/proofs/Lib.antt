@@ -6,3 +6,4 @@ pub mod Filling
 pub mod Chains
 pub mod Calls
 pub mod HVStations
+pub mod Breakers

@@ -98,18 +98,31 @@ module _ (N : Network) (d : Read N) (r : Rules N) where
       go (inl (p, t)) = byHV p (last-breaker N d r (line l) [] (nearEnd N l) (a, b) p)
       go (inr (f, t)) =
           let x = closed-end N f (t .closed) in
-          let k = near-end (f .line) (x .0) (x .1) in
           let y : f .line ≡ feeder N l = sym (ap secondLine (t .path)) in
           byLine (subst (λ j. 1 ≤ j) y (x .0)) (subst (λ j. j ≤ length (N .lines)) y (x .1))
           (subst (λ j. pathToHV N (line l) ≡ nearEnd N l ∷ far (nearEnd N j) ∷ pathToHV N (line j)) y (t .path ∙ ap (λ x. nearEnd N l ∷ x ∷ pathToHV N (line (f .line))) (t .other)))
-          (subst (λ j. customersBehind N (far (nearEnd N j)) ≡ customersBehind N (nearEnd N j)) y
-          (sym (ends-alike N d r (nearEnd N (f .line)) (k .closed) (ap (isOpen N) (sym (t .other)) ∙ t .closed) (ap (λ j. pathToHV N (line j)) (k .own) ∙ k .path))))
 
   pub feeds : Feeds N
   feeds = record {
     ends = λ l a b. let n = near-end l a b in let s = side-of N (nearEnd N l) (n .closed) in (n .own, s .0, s .1);
     fed = line-fed;
   }
+
+  -- behind a closed end are the customers that are behind its line's near end
+  pub behind-line : (e : End) → isOpen N e ≡ false → customersBehind N e ≡ customersBehind N (nearEnd N (e .line))
+  behind-line e c = ⊎-elim first second (end-first N d r e c)
+    where
+      n : Near N (e .line) (nearEnd N (e .line))
+      n = let x = closed-end N e c in near-end (e .line) (x .0) (x .1)
+
+      first : pathToHV N (line (e .line)) ≡ e ∷ pathToHV N (station (stationAt N e)) → customersBehind N e ≡ customersBehind N (nearEnd N (e .line))
+      first p = ap (customersBehind N) (sym (near-is (e .line) e (record { own = refl; closed = c; path = p })))
+
+      second : pathToHV N (station (stationAt N e)) ≡ e ∷ pathToHV N (line (e .line)) → customersBehind N e ≡ customersBehind N (nearEnd N (e .line))
+      second p =
+          let o : e ≡ far (nearEnd N (e .line)) = other-end N e (nearEnd N (e .line)) c (n .closed) (sym (n .own)) (λ q. end-first-once N d r e (n .path ∙ ap (λ d. d ∷ pathToHV N (station (stationAt N d))) (sym q)) p) in
+          ap (customersBehind N) o
+          ∙ sym (ends-alike N d r (nearEnd N (e .line)) (n .closed) (ap (isOpen N) (sym o) ∙ c) (ap (λ k. pathToHV N (line k)) (n .own) ∙ n .path))
 
   -- ── what lies below an end ──
   module _ (e : End) (n : Near N (e .line) e) where

@@ -1,18 +1,19 @@
-// The customers behind each line, the impact of a fault on it, the total of the outage amounts and the SAIDI figure.
+// The customers behind each line, the breaker that trips for it, its impact, the total of the outage amounts and the SAIDI figure.
+// An end has a code: 1 and 2 are the ends of line 1, 3 and 4 those of line 2; 0 is none.
 ghost use mathlib.Core.Path.{_≡_};
-ghost use Prim.Native.Nat.{_-_};
+ghost use Prim.Native.Nat.{_+_, _*_, _-_, _/_, _≤_, _<_};
 ghost use lib.ListN.{length, getD};
-ghost use Rattle.model.specs.Paths.{state};
-ghost use Rattle.model.specs.Outage.{impact, outageAmount, total as totalOf, figure};
+ghost use Rattle.model.specs.Paths.{isBreaker};
+ghost use Rattle.model.specs.Outage.{tripped, impact, outageAmount, total as totalOf, figure};
 ghost use Rattle.theory.specs.Reading.{Read};
 ghost use Rattle.theory.specs.Radial.{Rules};
 ghost use Rattle.theory.specs.Sizes.{Sized};
 ghost use Rattle.theory.specs.Behind.{stationSum, lineSum};
 ghost use Rattle.buffer.specs.Buffer.{networkIn};
 ghost use Rattle.buffer.specs.Fits.{Fits, LineThere, EndThere, endIn};
-ghost use Rattle.tree.specs.Linked.{codeEnd, Linked};
+ghost use Rattle.tree.specs.Linked.{endCode, codeEnd, Linked};
 ghost use Rattle.tree.specs.Outwards.{Outwards};
-ghost use Rattle.outage.specs.Held.{HoldsCustomers, HoldsImpacts};
+ghost use Rattle.outage.specs.Held.{HoldsCustomers, HoldsTrips, HoldsImpacts};
 ghost use Rattle.outage.specs.Feeding.{Feeds, Known};
 ghost use Rattle.outage.specs.Below.{Ready, Leaves, AtLine, AtStation, Filled};
 use amounts::Customers;
@@ -103,76 +104,115 @@ pub fn customers_behind(
     sums_outwards(net, heads, nexts, sums);
 }
 
-// The state of the near end of a line.
-fn near_state(net: &[u64; 5129], near: &[u64; 768], line: usize) -> u64
+// Whether the near end of a line is a breaker.
+fn near_breaker(net: &[u64; 5129], near: &[u64; 768], line: usize) -> bool
     requires { ⌜ EndThere (now net) line (getD (now near) (line - 1) 0) ⌝ }
-    ensures { λ r. ⌜ r ≡ state (networkIn (now (net .entry))) (endIn line (getD (now (near .entry)) (line - 1) 0)) ⌝ }
+    ensures { λ r. ⌜ r ≡ isBreaker (networkIn (now (net .entry))) (endIn line (getD (now (near .entry)) (line - 1) 0)) ⌝ }
 {
-    buffer::end_state(net, line, near[line - 1] as usize)
+    buffer::is_breaker(net, line, near[line - 1] as usize)
 }
 
-// The state of the far end of a line.
-fn far_state(net: &[u64; 5129], near: &[u64; 768], line: usize) -> u64
+// Whether the far end of a line is a breaker.
+fn far_breaker(net: &[u64; 5129], near: &[u64; 768], line: usize) -> bool
     requires { ⌜ EndThere (now net) line (getD (now near) (line - 1) 0) ⌝ }
-    ensures { λ r. ⌜ r ≡ state (networkIn (now (net .entry))) (endIn line (3 - getD (now (near .entry)) (line - 1) 0)) ⌝ }
+    ensures { λ r. ⌜ r ≡ isBreaker (networkIn (now (net .entry))) (endIn line (3 - getD (now (near .entry)) (line - 1) 0)) ⌝ }
 {
-    buffer::end_state(net, line, 3 - near[line - 1] as usize)
+    buffer::is_breaker(net, line, 3 - near[line - 1] as usize)
 }
 
-// The impact of a fault on a line, where `impacts` has that of the line that feeds it. The breaker that trips is the line's
-// near end, or the far end of its feeder, or the one that trips for its feeder.
-fn impact_of(
+// The code of the near end of a line.
+fn near_code(near: &[u64; 768], line: usize) -> u64
+    requires { ⌜ (1 ≤ line) × (line ≤ 768) × (getD (now near) (line - 1) 0 ≤ 2) ⌝ }
+    ensures { λ r. ⌜ r ≡ 2 * line + getD (now (near .entry)) (line - 1) 0 - 2 ⌝ }
+{
+    2 * line as u64 + near[line - 1] - 2
+}
+
+// The code of the far end of a line.
+fn far_code(near: &[u64; 768], line: usize) -> u64
+    requires { ⌜ (1 ≤ line) × (line ≤ 768) × (getD (now near) (line - 1) 0 ≤ 2) ⌝ }
+    ensures { λ r. ⌜ r ≡ 2 * line + 1 - getD (now (near .entry)) (line - 1) 0 ⌝ }
+{
+    2 * line as u64 + 1 - near[line - 1]
+}
+
+// The code of the breaker that trips for a fault on a line, where `trips` has that of the line that feeds it.
+fn trip_of(
     net: &[u64; 5129],
     near: &[u64; 768],
     feed: &[u64; 768],
-    sums: &[u64; 768],
-    impacts: &[u64],
+    trips: &[u64],
     line: usize,
 ) -> u64
-    requires { ⌜ Known (now net) (now near) (now feed) (now sums) (now impacts) line × (length (now impacts) ≡ 768) ⌝ }
-    ensures { λ r. ⌜ r ≡ impact (networkIn (now (net .entry))) line ⌝ }
+    requires { ⌜ Known (now net) (now near) (now feed) (now trips) line × (length (now trips) ≡ 768) ⌝ }
+    ensures { λ r. ⌜ r ≡ endCode (tripped (networkIn (now (net .entry))) line) ⌝ }
 {
-    if near_state(net, near, line) == 1 {
-        return sums[line - 1];
+    if near_breaker(net, near, line) {
+        return near_code(near, line);
     }
     let feeder = feed[line - 1] as usize;
-    if far_state(net, near, feeder) == 1 {
-        return sums[feeder - 1];
+    if far_breaker(net, near, feeder) {
+        return far_code(near, feeder);
     }
-    impacts[feeder - 1]
+    trips[feeder - 1]
 }
 
-// The impact of a fault on each line, from the HV stations outwards.
-fn impacts_outwards(
+// The code of the breaker that trips for each line, from the HV stations outwards.
+fn trips_outwards(
     net: &[u64; 5129],
     near: &[u64; 768],
     feed: &[u64; 768],
     order: &[u64; 768],
-    sums: &[u64; 768],
     out: &mut [u64],
 )
-    requires { ⌜ Fits (networkIn (now net)) × Feeds (networkIn (now net)) × Outwards (networkIn (now net)) (now near) (now feed) (now order) × HoldsCustomers (networkIn (now net)) (now sums) × (length (now out) ≡ 768) ⌝ }
-    ensures { λ r. ⌜ HoldsImpacts (networkIn (now (net .entry))) (now (out .exit)) ⌝ }
+    requires { ⌜ Fits (networkIn (now net)) × Feeds (networkIn (now net)) × Outwards (networkIn (now net)) (now near) (now feed) (now order) × (length (now out) ≡ 768) ⌝ }
+    ensures { λ r. ⌜ HoldsTrips (networkIn (now (net .entry))) (now (out .exit)) ⌝ }
 {
     for i in 0..buffer::lines(net) {
         let line = order[i] as usize;
-        out[line - 1] = impact_of(net, near, feed, sums, out, line);
+        out[line - 1] = trip_of(net, near, feed, out, line);
+    }
+}
+
+// The code of the breaker that trips for each line.
+pub fn trips(
+    net: &[u64; 5129],
+    near: &[u64; 768],
+    feed: &[u64; 768],
+    order: &[u64; 768],
+    out: &mut [u64; 768],
+)
+    requires { ⌜ Read (networkIn (now net)) × Rules (networkIn (now net)) × Outwards (networkIn (now net)) (now near) (now feed) (now order) ⌝ }
+    ensures { λ r. ⌜ HoldsTrips (networkIn (now (net .entry))) (now (out .exit)) ⌝ }
+{
+    trips_outwards(net, near, feed, order, out);
+}
+
+// The line of the breaker that trips for line i + 1.
+fn trip_line(trips: &[u64; 768], i: usize) -> usize
+    requires { ⌜ (i < 768) × (getD (now trips) i 0 ≤ 1536) ⌝ }
+    ensures { λ r. ⌜ r ≡ (getD (now (trips .entry)) i 0 + 1) / 2 ⌝ }
+{
+    (trips[i] as usize + 1) / 2
+}
+
+// The impact of a fault on each line: the customers behind the line of the breaker that trips for it.
+fn impacts_behind(net: &[u64; 5129], trips: &[u64; 768], sums: &[u64; 768], out: &mut [u64])
+    requires { ⌜ Read (networkIn (now net)) × Rules (networkIn (now net)) × HoldsTrips (networkIn (now net)) (now trips) × HoldsCustomers (networkIn (now net)) (now sums) × (length (now out) ≡ 768) ⌝ }
+    ensures { λ r. ⌜ HoldsImpacts (networkIn (now (net .entry))) (now (out .exit)) ⌝ }
+{
+    for i in 0..buffer::lines(net) {
+        let line = trip_line(trips, i);
+        out[i] = sums[line - 1];
     }
 }
 
 // The impact of a fault on each line.
-pub fn impacts(
-    net: &[u64; 5129],
-    near: &[u64; 768],
-    feed: &[u64; 768],
-    order: &[u64; 768],
-    sums: &[u64; 768],
-    out: &mut [u64; 768],
-)
-    requires { ⌜ Read (networkIn (now net)) × Rules (networkIn (now net)) × Outwards (networkIn (now net)) (now near) (now feed) (now order) × HoldsCustomers (networkIn (now net)) (now sums) ⌝ }
+pub fn impacts(net: &[u64; 5129], trips: &[u64; 768], sums: &[u64; 768], out: &mut [u64; 768])
+    requires { ⌜ Read (networkIn (now net)) × Rules (networkIn (now net)) × HoldsTrips (networkIn (now net)) (now trips) × HoldsCustomers (networkIn (now net)) (now sums) ⌝ }
     ensures { λ r. ⌜ HoldsImpacts (networkIn (now (net .entry))) (now (out .exit)) ⌝ }
 {
-    impacts_outwards(net, near, feed, order, sums, out);
+    impacts_behind(net, trips, sums, out);
 }
 
 // The outage amount of a line: its weight times the impact of a fault on it.

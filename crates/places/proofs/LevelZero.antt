@@ -12,9 +12,10 @@ use Rattle.savings.specs.Breakers.{endAt}
 use Rattle.theory.specs.Ends.{closed-end}
 use Rattle.theory.specs.Best.{Accepted, place-closed}
 use Rattle.tree.specs.Linked.{endCode}
+use Rattle.outage.specs.Held.{HoldsTrips}
 use Rattle.places.specs.Sets.{nearAt, weightAt, worstAt}
 use Rattle.places.specs.Start.{start-near}
-use Rattle.places.specs.Held.{Level, HoldsTrips}
+use Rattle.places.specs.Held.{Level}
 use Rattle.places.specs.Own.{HoldsNears}
 use Rattle.places.proofs.OnEnds.{place-in}
 

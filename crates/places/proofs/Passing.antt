@@ -58,14 +58,14 @@ module _ (N : Network) (a : Accepted N) (l : ℕ) (i : 1 ≤ l) (j : l ≤ lengt
     where
       go : Fed N l → nearEnd N l ∷ pathBeyond N (feeder N l) ≡ route N l
       go (byHV p t) = ap (λ k. nearEnd N l ∷ pathBeyond N k) (feeder-none N l (nearEnd N l) p) ∙ sym p
-      go (byLine u v p t) = ap (λ es. nearEnd N l ∷ es) (sym (beyond-is N (feeder N l) u)) ∙ sym p
+      go (byLine u v p) = ap (λ es. nearEnd N l ∷ es) (sym (beyond-is N (feeder N l) u)) ∙ sym p
 
   pub feeder-high : feeder N l ≤ length (N .lines)
   feeder-high = go (feeds N (a .read) (a .rules) .fed l i j)
     where
       go : Fed N l → feeder N l ≤ length (N .lines)
       go (byHV p t) = omega (arith, feeder-none N l (nearEnd N l) p)
-      go (byLine u v p t) = v
+      go (byLine u v p) = v
 
   pub meets-route : (s k : ℕ) (m : Met) → s ≡ nearEnd N l .side → k ≡ feeder N l → Meets N (codeEnd (2 * l + s - 2) ∷ pathBeyond N k) m → Meets N (route N l) m
   meets-route s k m q f h = subst (λ es. Meets N es m) ((λ i. near-coded s q i ∷ pathBeyond N (f i)) ∙ route-is) h

@@ -8,13 +8,13 @@ use lib.ListN.{length, getD}
 use Rattle.model.specs.Lists.{firstOr}
 use Rattle.model.specs.Network.{Network}
 use Rattle.model.specs.Paths.{End, sameEnd}
-use Rattle.model.specs.Outage.{tripped}
 use Rattle.model.specs.Sets.{placeNumbers}
 use Rattle.savings.specs.Breakers.{endAt}
 use Rattle.savings.specs.Totals.{breakersWith}
 use Rattle.tree.specs.Linked.{endCode, codeEnd}
 use Rattle.tree.specs.Outwards.{nearEnd}
 use Rattle.tree.specs.Counts.{pathBreakers}
+use Rattle.outage.specs.Held.{HoldsTrips}
 use Rattle.places.specs.Ways.{has}
 use Rattle.places.specs.Onward.{onward}
 use Rattle.places.specs.Stops.{firstStop, firstPlace}
@@ -33,10 +33,6 @@ HoldsPlaces N marks = (code : ℕ) → 1 ≤ code → code ≤ 2 * length (N .li
 -- the number of each line's near end
 abbrev pub HoldsSides : Network → List ℕ → Type 0
 HoldsSides N near = (l : ℕ) → 1 ≤ l → l ≤ length (N .lines) → getD near (l - 1) 0 ≡ nearEnd N l .side
-
--- the code of the breaker that trips for each line
-abbrev pub HoldsTrips : Network → List ℕ → Type 0
-HoldsTrips N trips = (l : ℕ) → 1 ≤ l → l ≤ length (N .lines) → getD trips (l - 1) 0 ≡ endCode (tripped N l)
 
 -- the place where each line's path first meets a breaker or a place, 0 if that is a breaker
 abbrev pub HoldsStops : Network → List ℕ → Type 0

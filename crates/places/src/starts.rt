@@ -8,8 +8,9 @@ ghost use Rattle.savings.specs.Breakers.{endAt};
 ghost use Rattle.theory.specs.Best.{Accepted};
 ghost use Rattle.buffer.specs.Buffer.{networkIn};
 ghost use Rattle.buffer.specs.Fits.{LineThere, PlaceThere};
+ghost use Rattle.outage.specs.Held.{HoldsTrips};
 ghost use Rattle.places.specs.Sets.{weightAt, worstAt};
-ghost use Rattle.places.specs.Held.{HoldsPlaces, HoldsSides, HoldsTrips, HoldsFirsts, HoldsStops, HoldsCounts, HoldsLines, HoldsRelations, Level};
+ghost use Rattle.places.specs.Held.{HoldsPlaces, HoldsSides, HoldsFirsts, HoldsStops, HoldsCounts, HoldsLines, HoldsRelations, Level};
 ghost use Rattle.places.specs.Own.{farRoute, farPlace, HoldsOwn, HoldsOwnWorst, HoldsNears, behindIn, underIn};
 
 // The weight of the lines whose path meets each place first, of the breakers and places. Entry 0 is for the lines that meet a

@@ -17,9 +17,10 @@ use Rattle.theory.specs.Sizes.{read-sized, setTotal-size}
 use Rattle.theory.specs.Behind.{side-of}
 use Rattle.tree.specs.Linked.{endCode}
 use Rattle.outage.specs.Held.{HoldsCustomers}
+use Rattle.outage.proofs.Paths.{behind-line}
 use Rattle.places.specs.Sets.{nearAt, weightAt, set-total}
 use Rattle.search.specs.Chosen.{Chosen, Later}
-use Rattle.search.proofs.Nearby.{end-closed, before-free, behind-line, near-closed, behind-near}
+use Rattle.search.proofs.Nearby.{end-closed, before-free, near-closed, behind-near}
 use Rattle.search.proofs.OneMore.{before-later}
 use Rattle.search.proofs.Levels.{chosen-valid}
 
@@ -60,12 +61,12 @@ module _ {N : Network} {relations level S : List ℕ} {by p : ℕ} (y : Later N 
       behind-near-is : getD sums ((code + 1) / 2 - 1) 0 ≡ customersBehind N near
       behind-near-is =
           let l = closed-end N near near-shut in
-          ap (λ k. getD sums (k - 1) 0) line-is ∙ h (near .line) (l .0) (l .1) ∙ sym (behind-line N (x .accepted) near near-shut)
+          ap (λ k. getD sums (k - 1) 0) line-is ∙ h (near .line) (l .0) (l .1) ∙ sym (behind-line N (x .accepted .read) (x .accepted .rules) near near-shut)
 
       behind-place-is : getD sums (line - 1) 0 ≡ customersBehind N e
       behind-place-is =
           let l = closed-end N e closed in
-          ap (λ k. getD sums (k - 1) 0) q ∙ h (e .line) (l .0) (l .1) ∙ sym (behind-line N (x .accepted) e closed)
+          ap (λ k. getD sums (k - 1) 0) q ∙ h (e .line) (l .0) (l .1) ∙ sym (behind-line N (x .accepted .read) (x .accepted .rules) e closed)
 
       pub no-fewer : getD sums (line - 1) 0 ≤ getD sums ((code + 1) / 2 - 1) 0
       no-fewer = omega (arith, behind-near-is, behind-place-is, behind-near N (x .accepted) S (chosen-valid x) e closed free)

@@ -1,4 +1,4 @@
--- The breaker near a place of an accepted file: it is a closed end, told from others by its code, and no fewer customers are behind it.
+-- The breaker near a place of an accepted file: it is a closed end, and no fewer customers are behind it.
 use Prim.Native.Nat.{ℕ, _+_, _≤_}
 use mathlib.Core.Path.{_≡_, refl, sym, ap, _∙_, subst}
 use mathlib.Core.Bool.{Bool, true, false, _||_, true≢false}
@@ -21,13 +21,10 @@ use Rattle.savings.specs.Breakers.{endAt, Valid}
 use Rattle.savings.specs.Totals.{breakersWith}
 use Rattle.theory.specs.Ends.{in-numbers, closed-end}
 use Rattle.theory.specs.Radial.{In, station-in}
-use Rattle.theory.specs.Forest.{end-first, end-first-once, tree}
-use Rattle.theory.specs.Behind.{far, side-of, other-end, ends-alike}
+use Rattle.theory.specs.Forest.{end-first, tree}
 use Rattle.theory.specs.Best.{Accepted, place-closed}
-use Rattle.tree.specs.Linked.{endCode}
 use Rattle.tree.specs.Outwards.{firstEnd, nearEnd}
-use Rattle.outage.specs.Feeding.{Near}
-use Rattle.outage.proofs.Paths.{near-is, near-end}
+use Rattle.outage.proofs.Paths.{behind-line}
 use Rattle.places.specs.Ways.{has, Way}
 use Rattle.places.specs.Onward.{onward, way, near-line}
 use Rattle.places.specs.Sets.{nearAt}
@@ -82,36 +79,6 @@ module _ (N : Network) (a : Accepted N) where
       at : (v : Vertex) → In N v → (es : List End) → pathToHV N v ≡ e ∷ es → has e (onward N e) ≡ false
       at v i es p = let w = subst (Way (onward N)) p (way N (a .read) (a .rules) v i) in ap (has e) (sym (w .0)) ∙ w .1
 
-  -- closed ends have codes of their own
-  pub code-same : (c d : End) → isOpen N c ≡ false → isOpen N d ≡ false → endCode c ≡ endCode d → c ≡ d
-  code-same c d o p e =
-      let x = closed-end N c o in
-      let y = closed-end N d p in
-      let s = side-of N c o in
-      let t = side-of N d p in
-      let l : c .line ≡ d .line = omega arith in
-      let k : c .side ≡ d .side = omega arith in
-      λ i. record { line = l i; side = k i }
-
-  -- behind a closed end are the customers that are behind its line's near end
-  pub behind-line : (e : End) → isOpen N e ≡ false → customersBehind N e ≡ customersBehind N (nearEnd N (e .line))
-  behind-line e c = ⊎-elim first second (end-first N (a .read) (a .rules) e c)
-    where
-      x : (1 ≤ e .line) × (e .line ≤ length (N .lines))
-      x = let y = closed-end N e c in (y .0, y .1)
-
-      n : Near N (e .line) (nearEnd N (e .line))
-      n = near-end N (a .read) (a .rules) (e .line) (x .0) (x .1)
-
-      first : pathToHV N (line (e .line)) ≡ e ∷ pathToHV N (station (stationAt N e)) → customersBehind N e ≡ customersBehind N (nearEnd N (e .line))
-      first p = ap (customersBehind N) (sym (near-is N (a .read) (a .rules) (e .line) e (record { own = refl; closed = c; path = p })))
-
-      second : pathToHV N (station (stationAt N e)) ≡ e ∷ pathToHV N (line (e .line)) → customersBehind N e ≡ customersBehind N (nearEnd N (e .line))
-      second p =
-          let o : e ≡ far (nearEnd N (e .line)) = other-end N e (nearEnd N (e .line)) c (n .closed) (sym (n .own)) (λ q. end-first-once N (a .read) (a .rules) e (n .path ∙ ap (λ d. d ∷ pathToHV N (station (stationAt N d))) (sym q)) p) in
-          ap (customersBehind N) o
-          ∙ sym (ends-alike N (a .read) (a .rules) (nearEnd N (e .line)) (n .closed) (ap (isOpen N) (sym o) ∙ c) (ap (λ k. pathToHV N (line k)) (n .own) ∙ n .path))
-
   -- an end that has no breaker with a set
   module _ (S : List ℕ) (v : Valid N S) (e : End) (c : isOpen N e ≡ false) (f : breakersWith N S e ≡ false) where
     abbrev B : End → Bool
@@ -142,7 +109,7 @@ module _ (N : Network) (a : Accepted N) where
     unfolding nearEnd
     behind-near = omega (
       arith,
-      behind-line e c ∙ ap (customersBehind N) (sym (first-end (pathToHV N (line l)))),
+      behind-line N (a .read) (a .rules) e c ∙ ap (customersBehind N) (sym (first-end (pathToHV N (line l)))),
       ap (customersBehind N) (near-line N B e f),
       first-mono (λ d. customersBehind N d) noEnd B (λ d. true) (pathToHV N (line l)) (rising-path N (tree N (a .read) (a .rules)) l (there .0) (there .1)) trips (λ d h. refl),
     )

@@ -14,13 +14,14 @@ use Rattle.savings.specs.Breakers.{endAt, Valid}
 use Rattle.savings.specs.Totals.{breakersWith}
 use Rattle.theory.specs.Best.{Accepted}
 use Rattle.tree.specs.Linked.{endCode}
+use Rattle.outage.proofs.Breakers.{code-same}
 use Rattle.places.specs.Ways.{has, has-onward}
 use Rattle.places.specs.Onward.{onward, way-onward}
 use Rattle.places.specs.Sets.{nearAt, weightAt, worstAt, underAt, set-near, set-weight, set-worst}
 use Rattle.places.specs.Apart.{ends-apart}
 use Rattle.places.specs.Held.{relation}
 use Rattle.search.specs.Chosen.{Before}
-use Rattle.search.proofs.Nearby.{place-in, end-closed, before-valid, before-free, onward-once, code-same, near-closed}
+use Rattle.search.proofs.Nearby.{place-in, end-closed, before-valid, before-free, onward-once, near-closed}
 
 pub before-later : (q r : ℕ) (S : List ℕ) → q ≤ r → Before q S → Before r S
 before-later q r [] h b = tt
@@ -73,7 +74,7 @@ module _ (N : Network) (a : Accepted N) (U : List ℕ) (last : ℕ) (low : 1 ≤
 
   -- one is under the other where it is behind it and their near breakers have one code
   under-yes : (b c : End) → has c (onward N b) ≡ true → isOpen N (nearAt N U b) ≡ false → isOpen N (nearAt N U c) ≡ false → endCode (nearAt N U b) ≡ endCode (nearAt N U c) → underAt N U b c ≡ true
-  under-yes b c h x y k = λ i. h i && (ap (λ n. sameEnd (nearAt N U b) n) (sym (code-same N a (nearAt N U b) (nearAt N U c) x y k)) ∙ sameEnd-refl (nearAt N U b)) i
+  under-yes b c h x y k = λ i. h i && (ap (λ n. sameEnd (nearAt N U b) n) (sym (code-same N (nearAt N U b) (nearAt N U c) x y k)) ∙ sameEnd-refl (nearAt N U b)) i
 
   under-no : (b c : End) (t : Bool) → has c (onward N b) ≡ t → (t ≡ true → endCode (nearAt N U b) ≡ endCode (nearAt N U c) → ⊥) → underAt N U b c ≡ false
   under-no b c t h n = ap (λ s. s && sameEnd (nearAt N U b) (nearAt N U c)) h ∙ go t (sameEnd (nearAt N U b) (nearAt N U c)) refl n

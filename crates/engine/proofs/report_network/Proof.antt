@@ -13,8 +13,8 @@ customers-behind-requires c κs = search needs
 lines-space-requires-2 : tie.Need-lines-space-requires-2
 lines-space-requires-2 c κs = search needs
 
-impacts-requires : tie.Need-impacts-requires
-impacts-requires c κs = search needs
+line-impacts-requires : tie.Need-line-impacts-requires
+line-impacts-requires c κs = search needs
 
 total-of-requires : tie.Need-total-of-requires
 total-of-requires c κs = search needs
@@ -35,7 +35,7 @@ write-report-requires c κs =
     let a = c .before .before .before .before .before .before .before .before .before .before .before .before .before .before .before .before .before .before in (
       record {
         accepted = a .pre .0;
-        holds = c .before .before .before .before .before .before .before .before .before .before .impacts2 .ensures;
+        holds = c .before .before .before .before .before .before .before .before .before .before .line-impacts .ensures;
         isTotal = c .before .before .before .number .ensures ∙ t .ensures;
         few = w .ensures .2;
         found = found-is (w .result) _ (c .before .number2 .ensures) ∙ w .ensures .0;
@@ -56,7 +56,7 @@ report-network-spec =
     lines-space-requires
     customers-behind-requires
     lines-space-requires-2
-    impacts-requires
+    line-impacts-requires
     total-of-requires
     walk-requires
     number-requires

@@ -5,15 +5,15 @@ use native.Mathlib.Omega.{arith}
 use lib.ListN.{length, length-set}
 use Rattle.buffer.specs.Buffer.{networkIn}
 use Rattle.outage.proofs.Order.{Done, next-known, done-more, done-all}
-use Rattle.outage.proofs.impacts_outwards.Statement.{statement}
-use Rattle.outage.proofs.impacts_outwards.Tie as tie
+use Rattle.outage.proofs.trips_outwards.Statement.{statement}
+use Rattle.outage.proofs.trips_outwards.Tie as tie
 
 abbrev Inv-loop : tie.InvT-loop
-Inv-loop net near feed order sums out₀ i₀ i-end out i =
+Inv-loop net near feed order out₀ i₀ i-end out i =
     (i-end ≡ length (networkIn net .lines)) × (i ≤ i-end) × (length out ≡ length out₀) × Done net order out i
 
 abbrev μ-loop : tie.MeasureT-loop
-μ-loop net near feed order sums out₀ i₀ i-end out i = i-end - i
+μ-loop net near feed order out₀ i₀ i-end out i = i-end - i
 
 lines-requires : tie.Need-lines-requires Inv-loop μ-loop
 lines-requires c κs = search needs
@@ -27,12 +27,12 @@ mul-line c = omega arith
 element-copy-out-line : tie.Need-element-copy-out-line Inv-loop μ-loop
 element-copy-out-line c = omega arith
 
-impact-of-requires : tie.Need-impact-of-requires Inv-loop μ-loop
-impact-of-requires c κs =
+trip-of-requires : tie.Need-trip-of-requires Inv-loop μ-loop
+trip-of-requires c κs =
     let s = c .before .before .before .before .before .before in
     let g = s .args in
     let h = c .before .before .before .loop in
-    (next-known (g .net .now) (g .near .now) (g .feed .now) (g .order .now) (g .sums .now) (s .pre .0) (s .pre .1) (s .pre .2) (s .pre .3) (h .out) (h .i) (omega arith) (h .inv .3), omega arith)
+    (next-known (g .net .now) (g .near .now) (g .feed .now) (g .order .now) (s .pre .0) (s .pre .1) (s .pre .2) (h .out) (h .i) (omega arith) (h .inv .3), omega arith)
 
 sub-out : tie.Need-sub-out Inv-loop μ-loop
 sub-out c =
@@ -60,7 +60,7 @@ loop-again c =
     let s = c .before .before .before .before .before .before .before in
     let g = s .args in
     let h = c .before .before .before .before .loop in
-    (omega arith, omega arith, simp length-set (h .inv .2), done-more (g .net .now) (g .near .now) (g .feed .now) (g .order .now) (g .sums .now) (s .pre .0) (s .pre .1) (s .pre .2) (s .pre .3) (h .out) (h .i) (c .impact-of .result) (omega arith) (omega arith) (c .impact-of .ensures) (h .inv .3))
+    (omega arith, omega arith, simp length-set (h .inv .2), done-more (g .net .now) (g .near .now) (g .feed .now) (g .order .now) (s .pre .0) (s .pre .1) (s .pre .2) (h .out) (h .i) (c .trip-of .result) (omega arith) (omega arith) (c .trip-of .ensures) (h .inv .3))
 
 same-length : tie.Need-same-length Inv-loop μ-loop
 same-length c = omega arith
@@ -70,10 +70,10 @@ returns c =
     let s = c .before .before .before .before in
     let g = s .args in
     let h = c .before .loop in
-    done-all (g .net .now) (g .near .now) (g .feed .now) (g .order .now) (g .sums .now) (s .pre .0) (s .pre .1) (s .pre .2) (s .pre .3) (h .out) (subst (Done (g .net .now) (g .order .now) (h .out)) (omega arith) (h .inv .3))
+    done-all (g .net .now) (g .near .now) (g .feed .now) (g .order .now) (s .pre .0) (s .pre .1) (s .pre .2) (h .out) (subst (Done (g .net .now) (g .order .now) (h .out)) (omega arith) (h .inv .3))
 
-pub impacts-outwards-spec : {M : Type 1} → statement M
-impacts-outwards-spec =
+pub trips-outwards-spec : {M : Type 1} → statement M
+trips-outwards-spec =
     tie.close
     (tie.spec
     Inv-loop
@@ -82,7 +82,7 @@ impacts-outwards-spec =
     loop-holds
     mul-line
     element-copy-out-line
-    impact-of-requires
+    trip-of-requires
     sub-out
     mul-out
     slice-write-out
