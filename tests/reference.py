@@ -2,7 +2,7 @@
 """What the calls answer, worked out from the specification by plain search over a graph, for small files.
 
 reference.py CALLS < cases: the cases are files, each ended by the two bytes '=' and newline; for each it prints what the calls
-named in CALLS answer (check, total, impact, search, report, program), in the form that the test programs print."""
+named in CALLS answer (check, total, impact, search, report, segments, program), in the form that the test programs print."""
 import re
 import sys
 
@@ -107,10 +107,23 @@ class Network:
         on = self.breakers | added
         return all(sum(e in on for e in way) <= self.head["series"] for way in self.way.values())
 
-    def impact(self, line, added=frozenset()):
+    def trips(self, line, added=frozenset()):
         on = self.breakers | added
-        trips = next(e for e in self.way[("L", line)] if e in on)
-        return sum(x[1] for s, x in enumerate(self.stations) if trips in self.way[("S", s + 1)])
+        return next(e for e in self.way[("L", line)] if e in on)
+
+    def behind(self, end):
+        return sum(x[1] for s, x in enumerate(self.stations) if end in self.way[("S", s + 1)])
+
+    def impact(self, line, added=frozenset()):
+        return self.behind(self.trips(line, added))
+
+    def segments(self):
+        """The numbers of the segment table."""
+        table = []
+        for end in sorted(self.breakers):
+            weight = sum(x[0] for l, x in enumerate(self.lines) if self.trips(l + 1) == end)
+            table += [*end, weight, self.behind(end), weight * self.behind(end)]
+        return table
 
     def total(self, added=frozenset()):
         return sum(x[0] * self.impact(l + 1, added) for l, x in enumerate(self.lines))
@@ -204,6 +217,18 @@ def report(data, lent):
         return "X,%d,%d\n" % why.args + f"{lent}\n"
 
 
+def segments(data, lent):
+    """What Segments answers with a buffer of so many numbers, each 99, the table, and how many numbers are 99."""
+    try:
+        if lent < 7680:
+            raise Refused(10, 0)
+        table = Network(data).segments()
+        rest = lent - len(table) + table.count(99)
+        return f"{len(table) // 5}\n" + "".join(f"{x} " for x in table) + f"\n{rest}\n"
+    except Refused as why:
+        return "X,%d,%d\n" % why.args + f"{lent}\n"
+
+
 def main():
     calls = sys.argv[1:]
     for data in sys.stdin.buffer.read().split(b"=\n")[:-1]:
@@ -213,6 +238,8 @@ def main():
                     sys.stdout.write("".join(search(data, lent) for lent in (15, 16, 20)))
                 elif call == "report":
                     sys.stdout.write("".join(report(data, lent) for lent in (32767, 32768, 40000)))
+                elif call == "segments":
+                    sys.stdout.write("".join(segments(data, lent) for lent in (7679, 7680, 8000)))
                 else:
                     sys.stdout.write(answer(call, data))
             except Refused as why:

@@ -1,5 +1,5 @@
 /*
- * Where a radial MV network should get circuit breakers: the six calls, for programs in C.
+ * Where a radial MV network should get circuit breakers: the seven calls, for programs in C.
  *
  * `file` points to the bytes of a network file and `file_length` says how many there are. Every other buffer is lent: a pointer
  * to its first element and its length in elements. No pointer is null, also where the length is 0; each is aligned for its
@@ -47,6 +47,13 @@ bool jubaxendi_search(const uint8_t *file, size_t file_length, uint64_t *members
  * `text`, which needs room for 32,768 bytes (refusal 10); its rest stays.
  */
 bool jubaxendi_report(const uint8_t *file, size_t file_length, uint8_t *text, size_t text_length, uint64_t *answer, size_t answer_length);
+
+/*
+ * Segments: the lines grouped by the breaker that trips for them. answer[2] is the number of breaker ends. For each of them, by line
+ * and end, five numbers are written at the start of `table`: line, end, the weights of the lines that it trips for, the customers
+ * behind it, and the product of these two. `table` needs room for 7,680 numbers (refusal 10); its rest stays.
+ */
+bool jubaxendi_segments(const uint8_t *file, size_t file_length, uint64_t *table, size_t table_length, uint64_t *answer, size_t answer_length);
 
 /* Ceiling: answer[2] sets of at most `additions` (0 to 16) of `places` (0 to 64) places there are. */
 bool jubaxendi_ceiling(uint64_t places, uint64_t additions, uint64_t *answer, size_t answer_length);

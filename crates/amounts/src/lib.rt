@@ -19,6 +19,13 @@ impl Weight {
     {
         Weight(number)
     }
+
+    // The weight as a number.
+    pub fn number(self) -> u64
+        ensures { λ r. ⌜ r ≡ self .0 ⌝ }
+    {
+        self.0
+    }
 }
 
 impl Customers {
@@ -26,6 +33,13 @@ impl Customers {
         ensures { λ r. ⌜ r .0 ≡ number ⌝ }
     {
         Customers(number)
+    }
+
+    // The customers as a number.
+    pub fn number(self) -> u64
+        ensures { λ r. ⌜ r ≡ self .0 ⌝ }
+    {
+        self.0
     }
 }
 

@@ -6,16 +6,16 @@ use mathlib.Core.List.{List, _++_}
 use native.Mathlib.Omega.{arith}
 use lib.ListN.{length, take, drop}
 use lib.Seq.{length-take-le, take-at}
-use borrow.Author.Tests.{lt-ltb, le-ltb}
-use Rattle.model.specs.Answer.{Answer, given, refused, _>>=_, refuseBuffer}
+use Rattle.model.specs.Answer.{Answer, given, refused, _>>=_}
 use Rattle.model.specs.Walk.{Found, search}
-use Rattle.model.specs.Calls.{lent, written, outcomeOf, Outcome, searched, searchAnswered, searchLeaves, searchSays}
+use Rattle.model.specs.Calls.{written, outcomeOf, Outcome, searched, searchAnswered, searchLeaves, searchSays}
 use Rattle.model.specs.Demand.{Answers, Demand3}
 use Rattle.model.specs.declared.SearchAnswer.{SearchAnswer}
 use Rattle.model.specs.Rules.{accepted}
 use Rattle.model.specs.Network.{Network}
 use Rattle.model.specs.Demand.{Answered}
 use Rattle.theory.specs.Best.{accepted-is, search-answered}
+use Rattle.engine.proofs.Lending.{lent-short, lent-enough}
 use Rattle.engine.specs.Loading.{fileFound, foundBy, AtMost16}
 
 module _ (file buffer : List ℕ) where
@@ -34,13 +34,13 @@ module _ (file buffer : List ℕ) where
   from-refused n i e = (ap outcome e, (ap leaves e, λ N h. tt))
 
   pub short-refused : length buffer < 16 → Claims (SearchAnswer.Refused 10 0) buffer
-  unfolding searched lent
-  short-refused h = from-refused 10 0 (sym (ap (λ b. elim b as (λ x. Answer Found) [ true ↦ refuseBuffer | false ↦ fileFound file ]) (lt-ltb (length buffer) 16 h)))
+  unfolding searched
+  short-refused h = from-refused 10 0 (sym (lent-short 16 buffer (fileFound file) h))
 
   module _ (h : 16 ≤ length buffer) where
     searched-is : fileFound file ≡ searched file buffer
-    unfolding searched lent
-    searched-is = sym (ap (λ b. elim b as (λ x. Answer Found) [ true ↦ refuseBuffer | false ↦ fileFound file ]) (le-ltb (length buffer) 16 h))
+    unfolding searched
+    searched-is = sym (lent-enough 16 buffer (fileFound file) h)
 
     pub file-refused : (n i : ℕ) (best : List ℕ) → foundBy (SearchAnswer.Refused n i) best ≡ fileFound file → Claims (SearchAnswer.Refused n i) buffer
     unfolding foundBy

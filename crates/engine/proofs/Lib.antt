@@ -5,4 +5,6 @@ pub mod Searching
 pub mod Members
 pub mod Found
 pub mod Calling
+pub mod Lending
 pub mod Reporting
+pub mod Tabling

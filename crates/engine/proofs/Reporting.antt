@@ -1,19 +1,18 @@
 -- What Report answers and leaves in the lent buffer.
 use Prim.Native.Nat.{ℕ, _≤_, _<_}
 use mathlib.Core.Path.{_≡_, sym, ap, _∙_}
-use mathlib.Core.Bool.{true, false}
 use mathlib.Core.List.{List, _++_}
 use lib.ListN.{length, drop}
-use borrow.Author.Tests.{lt-ltb, le-ltb}
-use Rattle.model.specs.Answer.{Answer, given, refused, _>>=_, refuseBuffer}
+use Rattle.model.specs.Answer.{Answer, given, refused, _>>=_}
 use Rattle.model.specs.Network.{Network}
 use Rattle.model.specs.Text.{reportText}
 use Rattle.model.specs.Rules.{accepted}
-use Rattle.model.specs.Calls.{lent, written, reported, reportAnswered, reportLeaves, reportSays}
+use Rattle.model.specs.Calls.{written, reported, reportAnswered, reportLeaves, reportSays}
 use Rattle.model.specs.declared.CheckAnswer.{CheckAnswer}
 use Rattle.model.specs.declared.ReportAnswer.{ReportAnswer}
 use Rattle.buffer.specs.Buffer.{networkIn}
 use Rattle.engine.specs.Loading.{before, loaded}
+use Rattle.engine.proofs.Lending.{lent-short, lent-enough}
 use Rattle.engine.proofs.Loads.{answered, same-answer}
 
 module _ (file buffer : List ℕ) where
@@ -30,12 +29,12 @@ module _ (file buffer : List ℕ) where
   from-refused n i e = (ap (λ x. x >>= λ text. given (length text)) e, ap (λ x. written x buffer) e)
 
   pub short-refused : length buffer < 32768 → Claims (ReportAnswer.Refused 10 0) buffer
-  unfolding reported lent
-  short-refused h = from-refused 10 0 (sym (ap (λ b. elim b as (λ x. Answer (List ℕ)) [ true ↦ refuseBuffer | false ↦ fileText ]) (lt-ltb (length buffer) 32768 h)))
+  unfolding reported
+  short-refused h = from-refused 10 0 (sym (lent-short 32768 buffer fileText h))
 
   pub reported-is : 32768 ≤ length buffer → fileText ≡ reported file buffer
-  unfolding reported lent
-  reported-is h = sym (ap (λ b. elim b as (λ x. Answer (List ℕ)) [ true ↦ refuseBuffer | false ↦ fileText ]) (le-ltb (length buffer) 32768 h))
+  unfolding reported
+  reported-is h = sym (lent-enough 32768 buffer fileText h)
 
   module _ (h : 32768 ≤ length buffer) (b : List ℕ) (r : CheckAnswer) (l : loaded r b ≡ accepted file) where
     pub file-refused : {n i : ℕ} → r ≡ CheckAnswer.Refused n i → Claims (ReportAnswer.Refused n i) buffer

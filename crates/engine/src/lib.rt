@@ -9,13 +9,14 @@ ghost use Rattle.theory.specs.Reading.{Read};
 ghost use Rattle.theory.specs.Radial.{Rules};
 ghost use Rattle.buffer.specs.Buffer.{networkIn};
 ghost use Rattle.model.specs.Rules.{radial, accepted};
-ghost use Rattle.model.specs.Calls.{checked, checkSays, impactAnswered, impactSays, totalled, totalSays, searchAnswered, searchLeaves, searchSays, reportAnswered, reportLeaves, reportSays};
+ghost use Rattle.model.specs.Calls.{checked, checkSays, impactAnswered, impactSays, totalled, totalSays, searchAnswered, searchLeaves, searchSays, reportAnswered, reportLeaves, reportSays, segmentsAnswered, segmentsLeaves, segmentsSays};
 ghost use Rattle.model.specs.Demand.{Demand3};
 ghost use Rattle.theory.specs.Best.{Accepted};
 ghost use Rattle.outage.specs.Held.{HoldsCustomers, HoldsImpacts};
 ghost use Rattle.model.specs.Outage.{total as totalOf};
 ghost use Rattle.model.specs.Walk.{search};
 ghost use Rattle.model.specs.Text.{reportText};
+ghost use Rattle.model.specs.Segments.{breakerEnds, segmentTable, BreakerByBreaker};
 ghost use Rattle.search.specs.Chosen.{Tables};
 ghost use Rattle.search.specs.Walking.{foundIn, HoldsBounds};
 ghost use Rattle.places.specs.Held.{Level};
@@ -26,6 +27,7 @@ use model::CheckAnswer;
 use model::ImpactAnswer;
 use model::ReportAnswer;
 use model::SearchAnswer;
+use model::SegmentsAnswer;
 use model::TotalAnswer;
 use reader::ReadAnswer;
 use search::Progress;
@@ -478,6 +480,61 @@ pub fn report(file: &[u8], text: &mut [u8]) -> ReportAnswer
         CheckAnswer::Accepted => {
             let length = report_network(&net, &heads, &nexts, &near, &feed, &order, text);
             ReportAnswer::Written(length)
+        }
+    }
+}
+
+// Writes the segment table of an accepted network at the start of a buffer; answers how many entries it has.
+fn table_network(
+    net: &[u64; 5129],
+    heads: &[u64; 512],
+    nexts: &[u64; 1536],
+    near: &[u64; 768],
+    feed: &[u64; 768],
+    order: &[u64; 768],
+    table: &mut [u64],
+) -> usize
+    requires { ⌜ Accepted (networkIn (now net)) × Prepared (networkIn (now net)) (now heads) (now nexts) (now near) (now feed) (now order) × (7680 ≤ length (now table)) ⌝ }
+    ensures { λ r. ⌜ (r ≡ length (breakerEnds (networkIn (now (net .entry))))) × (now (table .exit) ≡ segmentTable (networkIn (now (net .entry))) ++ drop (length (segmentTable (networkIn (now (net .entry))))) (now (table .entry))) ⌝ }
+{
+    let mut sums = lines_space();
+    outage::customers_behind(net, heads, nexts, &mut sums);
+    let mut trips = lines_space();
+    outage::trips(net, near, feed, order, &mut trips);
+    segments::write_table(net, &trips, &sums, table)
+}
+
+// Segments: the lines grouped by the breaker that trips for them, five numbers a breaker, at the start of `table`.
+pub fn segments(file: &[u8], table: &mut [u64]) -> SegmentsAnswer
+    ensures { λ r. ⌜ segmentsSays r ≡ segmentsAnswered (now (file .entry)) (now (table .entry)) ⌝ }
+    ensures { λ r. ⌜ now (table .exit) ≡ segmentsLeaves (now (file .entry)) (now (table .entry)) ⌝ }
+    ensures { λ r. ⌜ BreakerByBreaker (now (file .entry)) r (now (table .exit)) ⌝ }
+{
+    if table.len() < 7680 {
+        return SegmentsAnswer::Refused {
+            number: 10,
+            record: 0,
+        };
+    }
+    let mut net = net_space();
+    let mut heads = stations_space();
+    let mut nexts = nexts_space();
+    let mut near = lines_space();
+    let mut feed = lines_space();
+    let mut order = lines_space();
+    match load(
+        file,
+        &mut net,
+        &mut heads,
+        &mut nexts,
+        &mut near,
+        &mut feed,
+        &mut order,
+    ) {
+        CheckAnswer::Refused { number, record } => SegmentsAnswer::Refused { number, record },
+        CheckAnswer::Accepted => {
+            let entries = table_network(&net, &heads, &nexts, &near, &feed, &order, table);
+            SegmentsAnswer::Entries(entries)
         }
     }
 }

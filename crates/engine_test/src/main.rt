@@ -6,6 +6,7 @@ use model::CheckAnswer;
 use model::ImpactAnswer;
 use model::ReportAnswer;
 use model::SearchAnswer;
+use model::SegmentsAnswer;
 use model::TotalAnswer;
 
 // Where the file that starts at `from` ends.
@@ -167,6 +168,53 @@ fn show_reports(file: &[u8]) {
     show_report(file, &mut long);
 }
 
+// 1 for the number 99, 0 for any other.
+fn is_filling(number: u64) -> usize
+    ensures { λ r. ⌜ r ≤ 1 ⌝ }
+{
+    if number == 99 { 1 } else { 0 }
+}
+
+// How many numbers of a buffer are 99.
+fn unchanged(table: &[u64]) -> usize {
+    let mut n: usize = 0;
+    for i in 0..table.len() {
+        n += is_filling(table[i]);
+    }
+    n
+}
+
+// The first `n` entries of a segment table.
+fn show_entries(table: &[u64], n: usize) {
+    if n <= 1536 && 5 * n <= table.len() {
+        show_numbers(&table[..5 * n]);
+    }
+}
+
+// What Segments answers with a buffer, the table, and how many numbers are as they were before the call.
+fn show_table(file: &[u8], table: &mut [u64]) {
+    match engine::segments(file, table) {
+        SegmentsAnswer::Entries(n) => {
+            io::print_decimal(1, n as u64);
+            io::write_all(1, b"\n");
+            show_entries(table, n);
+        }
+        SegmentsAnswer::Refused { number, record } => show_refusal(number, record),
+    }
+    io::print_decimal(1, unchanged(table) as u64);
+    io::write_all(1, b"\n");
+}
+
+// Segments with a buffer of one number too few, of just enough and of more.
+fn show_tables(file: &[u8]) {
+    let mut short = [99u64; 7679];
+    show_table(file, &mut short);
+    let mut enough = [99u64; 7680];
+    show_table(file, &mut enough);
+    let mut long = [99u64; 8000];
+    show_table(file, &mut long);
+}
+
 // What the calls answer for a file. Impact is asked for 0 and, if the file is accepted, for the largest number and each line too.
 fn show(file: &[u8]) {
     show_check(file);
@@ -181,6 +229,7 @@ fn show(file: &[u8]) {
     }
     show_searches(file);
     show_reports(file);
+    show_tables(file);
 }
 
 // Room for the input.

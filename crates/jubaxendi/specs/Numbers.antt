@@ -32,6 +32,10 @@ searchNumbers answer = answerNumbers (λ o. (elim (o .finished) [ true ↦ 1 | f
 abbrev pub reportNumbers : Answer ℕ → List ℕ
 reportNumbers answer = answerNumbers (λ length. length ∷ []) answer
 
+-- Segments: the number of entries.
+abbrev pub segmentsNumbers : Answer ℕ → List ℕ
+segmentsNumbers answer = answerNumbers (λ entries. entries ∷ []) answer
+
 -- Ceiling: the number of sets.
 abbrev pub ceilingNumbers : Answer ℕ → List ℕ
 ceilingNumbers answer = answerNumbers (λ sets. sets ∷ []) answer

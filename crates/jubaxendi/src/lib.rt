@@ -6,13 +6,14 @@ ghost use mathlib.Core.List.{_∷_, _++_};
 ghost use Prim.Native.Nat.{_≤_};
 ghost use lib.Dec.{leb};
 ghost use lib.ListN.{length, drop};
-ghost use Rattle.model.specs.Calls.{checked, impactAnswered, totalled, searchAnswered, searchLeaves, reportAnswered, reportLeaves, ceilingAnswered};
-ghost use Rattle.jubaxendi.specs.Numbers.{checkNumbers, impactNumbers, totalNumbers, searchNumbers, reportNumbers, ceilingNumbers, ifRoom, answerLeaves};
+ghost use Rattle.model.specs.Calls.{checked, impactAnswered, totalled, searchAnswered, searchLeaves, reportAnswered, reportLeaves, segmentsAnswered, segmentsLeaves, ceilingAnswered};
+ghost use Rattle.jubaxendi.specs.Numbers.{checkNumbers, impactNumbers, totalNumbers, searchNumbers, reportNumbers, segmentsNumbers, ceilingNumbers, ifRoom, answerLeaves};
 use model::CeilingAnswer;
 use model::CheckAnswer;
 use model::ImpactAnswer;
 use model::ReportAnswer;
 use model::SearchAnswer;
+use model::SegmentsAnswer;
 use model::TotalAnswer;
 
 // The room that every call needs in `answer`.
@@ -151,6 +152,28 @@ pub extern "C" fn jubaxendi_report(file: &[u8], text: &mut [u8], answer: &mut [u
         }
         ReportAnswer::Written(length) => {
             put_numbers(&[0, 0, length as u64], answer);
+            true
+        }
+    }
+}
+
+// Segments: how many entries the segment table has. The table, five numbers an entry, is written at the start of `table`.
+#[no_mangle]
+pub extern "C" fn jubaxendi_segments(file: &[u8], table: &mut [u64], answer: &mut [u64]) -> bool
+    ensures { λ r. ⌜ r ≡ leb 6 (length (now (answer .entry))) ⌝ }
+    ensures { λ r. ⌜ now (table .exit) ≡ ifRoom (now (answer .entry)) (segmentsLeaves (now (file .entry)) (now (table .entry))) (now (table .entry)) ⌝ }
+    ensures { λ r. ⌜ now (answer .exit) ≡ answerLeaves (segmentsNumbers (segmentsAnswered (now (file .entry)) (now (table .entry)))) (now (answer .entry)) ⌝ }
+{
+    if answer.len() < ROOM {
+        return false;
+    }
+    match engine::segments(file, table) {
+        SegmentsAnswer::Refused { number, record } => {
+            put_refusal(number, record, answer);
+            true
+        }
+        SegmentsAnswer::Entries(entries) => {
+            put_numbers(&[0, 0, entries as u64], answer);
             true
         }
     }

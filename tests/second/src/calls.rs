@@ -1,4 +1,4 @@
-//! The six calls and the program, in the form of the engine's C interface.
+//! The seven calls and the program, in the form of the engine's C interface.
 
 use crate::file::{refuse, Refusal};
 use crate::mistakes::Mistake::*;
@@ -13,6 +13,7 @@ use std::rc::Rc;
 pub const ANSWER: usize = 6;
 pub const MEMBERS: usize = 16;
 pub const TEXT: usize = 32_768;
+pub const TABLE: usize = 7_680;
 
 /// Each call gives false and writes nothing if the answer has fewer than 6 numbers. Otherwise the answer starts with the
 /// refusal's number (0: answered) and record, and of an answered call the values follow.
@@ -22,6 +23,7 @@ pub trait Calls {
     fn total(&self, file: &[u8], answer: &mut [u64]) -> bool;
     fn search(&self, file: &[u8], members: &mut [u64], answer: &mut [u64]) -> bool;
     fn report(&self, file: &[u8], text: &mut [u8], answer: &mut [u64]) -> bool;
+    fn segments(&self, file: &[u8], table: &mut [u64], answer: &mut [u64]) -> bool;
     fn ceiling(&self, places: u64, additions: u64, answer: &mut [u64]) -> bool;
     /// What the program prints when it is given the file in pieces of so many bytes, or of more if these would be very many;
     /// none if there is no program.
@@ -97,6 +99,14 @@ impl Second {
         }
     }
 
+    fn least_table(&self) -> usize {
+        match self.wrong {
+            Some(TableShorter) => TABLE - 1,
+            Some(TableLonger) => TABLE + 1,
+            _ => TABLE,
+        }
+    }
+
     /// Refusal 10 and those of the file, in turn.
     fn refused(&self, worked: &Worked, short: bool) -> Result<(), Refusal> {
         let file = worked.network.as_ref().map(|_| ()).map_err(|r| *r);
@@ -157,6 +167,19 @@ impl Second {
         Ok([printed.len() as u64])
     }
 
+    fn segments_of(&self, file: &[u8], table: &mut [u64]) -> Result<[u64; 1], Refusal> {
+        let worked = self.worked(file);
+        self.refused(&worked, table.len() < self.least_table())?;
+        let network = worked.network.as_ref().map_err(|r| *r)?;
+        let entries = network.segments();
+        let numbers = entries.as_flattened();
+        table[..numbers.len()].copy_from_slice(numbers);
+        if self.wrong == Some(TableCleared) && numbers.len() < table.len() {
+            table[numbers.len()] = 0;
+        }
+        Ok([if self.wrong == Some(EntriesAsNumbers) { numbers.len() } else { entries.len() } as u64])
+    }
+
     fn ceiling_of(&self, places: u64, additions: u64) -> Result<[u64; 1], Refusal> {
         let most = if self.wrong == Some(CeilingShort) { 63 } else { 64 };
         if places > most || additions > 16 {
@@ -207,6 +230,10 @@ impl Calls for Second {
 
     fn report(&self, file: &[u8], text: &mut [u8], answer: &mut [u64]) -> bool {
         !self.too_short(answer) && self.put(answer, self.report_of(file, text))
+    }
+
+    fn segments(&self, file: &[u8], table: &mut [u64], answer: &mut [u64]) -> bool {
+        !self.too_short(answer) && self.put(answer, self.segments_of(file, table))
     }
 
     fn ceiling(&self, places: u64, additions: u64, answer: &mut [u64]) -> bool {

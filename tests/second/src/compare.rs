@@ -1,6 +1,6 @@
 //! Compares two implementations of the calls, file by file.
 
-use crate::calls::{Calls, ANSWER, MEMBERS, TEXT};
+use crate::calls::{Calls, ANSWER, MEMBERS, TABLE, TEXT};
 use crate::file::LONGEST;
 use crate::network::Network;
 use crate::random::Random;
@@ -15,6 +15,7 @@ pub enum Call {
     Total,
     Search { members: usize },
     Report { text: usize },
+    Segments { table: usize },
     Ceiling { places: u64, additions: u64 },
     Program { piece: usize },
 }
@@ -32,7 +33,8 @@ pub struct Asked {
 struct Left {
     returned: bool,
     answer: Vec<u64>,
-    members: Vec<u64>,
+    /// The members that Search writes, or the table of Segments
+    numbers: Vec<u64>,
     text: Vec<u8>,
 }
 
@@ -61,12 +63,16 @@ fn inner<T>(buffer: &mut [T]) -> &mut [T] {
 
 /// Lent buffers and what they were filled with.
 fn lend(asked: &Asked) -> Left {
-    let members = if let Call::Search { members } = asked.call { members } else { 0 };
+    let numbers = match asked.call {
+        Call::Search { members } => members,
+        Call::Segments { table } => table,
+        _ => 0,
+    };
     let text = if let Call::Report { text } = asked.call { text } else { 0 };
     Left {
         returned: false,
         answer: filled(asked.fill, asked.answer),
-        members: filled(asked.fill ^ 1, members),
+        numbers: filled(asked.fill ^ 1, numbers),
         text: filled_text(asked.fill ^ 2, text),
     }
 }
@@ -77,8 +83,9 @@ fn ask(side: &dyn Calls, file: &[u8], asked: &Asked, mut left: Left) -> Left {
         Call::Check => side.check(file, answer),
         Call::Impact { line } => side.impact(file, line, answer),
         Call::Total => side.total(file, answer),
-        Call::Search { .. } => side.search(file, inner(&mut left.members), answer),
+        Call::Search { .. } => side.search(file, inner(&mut left.numbers), answer),
         Call::Report { .. } => side.report(file, inner(&mut left.text), answer),
+        Call::Segments { .. } => side.segments(file, inner(&mut left.numbers), answer),
         Call::Ceiling { places, additions } => side.ceiling(places, additions, answer),
         Call::Program { piece } => {
             left.text = side.program(file, piece).unwrap_or_default();
@@ -95,7 +102,7 @@ fn answer_count(call: &Call, answer: &[u64]) -> usize {
     }
     2 + match call {
         Call::Check => 0,
-        Call::Impact { .. } | Call::Report { .. } | Call::Ceiling { .. } => 1,
+        Call::Impact { .. } | Call::Report { .. } | Call::Segments { .. } | Call::Ceiling { .. } => 1,
         Call::Total => 2,
         _ => 4,
     }
@@ -111,13 +118,14 @@ fn stray_write(asked: &Asked, before: &Left, after: &Left) -> Option<String> {
         return Some(format!("returned {}", after.returned));
     }
     let mut free = 0;
-    let (mut members, mut text) = (0, 0);
+    let (mut numbers, mut text) = (0, 0);
     if after.returned {
         let answer = &after.answer[MARGIN..MARGIN + lent];
         free = answer_count(&asked.call, answer);
         if answer[0] == 0 {
             match asked.call {
-                Call::Search { .. } => members = answer[3] as usize,
+                Call::Search { .. } => numbers = answer[3] as usize,
+                Call::Segments { .. } => numbers = 5 * answer[2] as usize,
                 Call::Report { .. } => text = answer[2] as usize,
                 _ => {}
             }
@@ -126,13 +134,25 @@ fn stray_write(asked: &Asked, before: &Left, after: &Left) -> Option<String> {
     fn outside<T: PartialEq>(before: &[T], after: &[T], free: usize) -> Option<usize> {
         (0..before.len()).find(|&i| (i < MARGIN || i >= MARGIN.saturating_add(free)) && before[i] != after[i])
     }
-    let names = ["answer", "members", "text"];
+    let names = ["answer", "numbers", "text"];
     let strays = [
         outside(&before.answer, &after.answer, free),
-        outside(&before.members, &after.members, members),
+        outside(&before.numbers, &after.numbers, numbers),
         outside(&before.text, &after.text, text),
     ];
     names.iter().zip(strays).find_map(|(name, at)| at.map(|i| format!("wrote to {name}[{}]", i as i64 - MARGIN as i64)))
+}
+
+/// What is wrong with the sums of a segment table: its products sum to the total line by line, its weights to those of all lines.
+fn sums_fault(network: &Network, answer: &[u64], table: &[u64]) -> Option<String> {
+    if answer[0] != 0 {
+        return None;
+    }
+    let entries = table.chunks_exact(5).take(answer[2] as usize);
+    let sum = |at: usize| entries.clone().map(|entry| u128::from(entry[at])).sum::<u128>();
+    let weights = network.file.lines.iter().map(|line| u128::from(line.weight)).sum::<u128>();
+    let total = u128::from(network.total());
+    ((sum(4), sum(2)) != (total, weights)).then(|| format!("products that sum to {total} and weights that sum to {weights}"))
 }
 
 fn shown(asked: &Asked, left: &Left) -> String {
@@ -144,11 +164,14 @@ fn shown(asked: &Asked, left: &Left) -> String {
     }
     let count = answer_count(&asked.call, &left.answer[MARGIN..]).min(asked.answer);
     let answer = &left.answer[MARGIN..MARGIN + count];
-    let members = answer.get(3).map_or(0, |&n| n as usize).min(left.members.len() - 2 * MARGIN);
+    let room = left.numbers.len() - 2 * MARGIN;
+    let members = answer.get(3).map_or(0, |&n| n as usize).min(room);
+    let table = answer.get(2).map_or(0, |&n| n as usize).saturating_mul(5).min(room);
     let text = answer.get(2).map_or(0, |&n| n as usize).min(left.text.len() - 2 * MARGIN);
     let mut out = format!("true, {answer:?}");
     match asked.call {
-        Call::Search { .. } => out += &format!(", members {:?}", &left.members[MARGIN..MARGIN + members]),
+        Call::Search { .. } => out += &format!(", members {:?}", &left.numbers[MARGIN..MARGIN + members]),
+        Call::Segments { .. } => out += &format!(", table {:?}", &left.numbers[MARGIN..MARGIN + table]),
         Call::Report { .. } => out += &format!(", text {}", printable(&left.text[MARGIN..MARGIN + text])),
         _ => {}
     }
@@ -250,8 +273,8 @@ impl<'a> Comparison<'a> {
         if let (Call::Search { .. }, Some((network, allowed)), true) = (asked.call, demand, engine.returned) {
             let answer = &engine.answer[MARGIN..MARGIN + asked.answer];
             if answer[0] == 0 {
-                let count = (answer[3] as usize).min(engine.members.len() - 2 * MARGIN);
-                let members = engine.members[MARGIN..MARGIN + count].iter().map(|&m| m as usize).collect();
+                let count = (answer[3] as usize).min(engine.numbers.len() - 2 * MARGIN);
+                let members = engine.numbers[MARGIN..MARGIN + count].iter().map(|&m| m as usize).collect();
                 let answered = Answer { finished: answer[2] == 1, members, total: answer[4], visits: answer[5] };
                 if let Some(fault) = subsets::fault_of(network, &answered, allowed) {
                     return difference(format!("demand 3: {fault}"), shown(asked, &engine));
@@ -260,6 +283,12 @@ impl<'a> Comparison<'a> {
         }
         if self.against == Against::Demand {
             return None;
+        }
+        if let (Call::Segments { .. }, Some((network, _)), true) = (asked.call, demand, engine.returned) {
+            let answer = &engine.answer[MARGIN..MARGIN + asked.answer];
+            if let Some(fault) = sums_fault(network, answer, &engine.numbers[MARGIN..engine.numbers.len() - MARGIN]) {
+                return difference(fault, shown(asked, &engine));
+            }
         }
         let second = ask(self.second, file, asked, lend(asked));
         if second != engine {
@@ -347,16 +376,18 @@ fn plan(network: Option<&Network>, depth: Depth, r: &mut Random) -> Vec<Asked> {
     let mut calls = vec![Call::Check];
     let search = Call::Search { members: MEMBERS };
     let report = Call::Report { text: TEXT };
+    let segments = Call::Segments { table: TABLE };
     match depth {
-        Depth::Shallow => match r.below(5) {
+        Depth::Shallow => match r.below(6) {
             0 => calls.push(Call::Impact { line: r.pick(&[0, 1, 2, lines, lines + 1, u64::MAX]) }),
             1 => calls.push(Call::Total),
             2 => calls.push(search),
             3 => calls.push(report),
+            4 => calls.push(segments),
             _ => {}
         },
         Depth::Full | Depth::Marked => {
-            calls.extend([Call::Total, search, report]);
+            calls.extend([Call::Total, search, report, segments]);
             calls.extend([0, lines, lines + 1, u64::MAX].map(|line| Call::Impact { line }));
             if network.is_some() {
                 let step = 1 + lines as usize / 12;
@@ -366,6 +397,7 @@ fn plan(network: Option<&Network>, depth: Depth, r: &mut Random) -> Vec<Asked> {
             if r.once_in(3) || depth == Depth::Marked {
                 calls.push(Call::Search { members: r.pick(&[0, 1, 2, 14, 15, 15, 17, 17, 18, 31, 64, 100]) });
                 calls.push(Call::Report { text: r.pick(&[0, 1, 100, TEXT - 1, TEXT - 1, TEXT + 1, TEXT + 1, LONGEST + 5_000]) });
+                calls.push(Call::Segments { table: r.pick(&[0, 1, 5, 100, TABLE - 1, TABLE - 1, TABLE + 1, TABLE + 1, 9_000]) });
             }
             if depth == Depth::Marked || r.once_in(16) {
                 calls.push(Call::Program { piece: r.pick(&[1, 2, 7, 100, 4_096, usize::MAX, usize::MAX, usize::MAX]) });

@@ -25,6 +25,14 @@ extern "C" {
         answer: *mut u64,
         answer_length: usize,
     ) -> bool;
+    fn jubaxendi_segments(
+        file: *const u8,
+        file_length: usize,
+        table: *mut u64,
+        table_length: usize,
+        answer: *mut u64,
+        answer_length: usize,
+    ) -> bool;
     fn jubaxendi_ceiling(places: u64, additions: u64, answer: *mut u64, answer_length: usize) -> bool;
 }
 
@@ -55,6 +63,10 @@ impl Calls for Engine {
 
     fn report(&self, file: &[u8], text: &mut [u8], answer: &mut [u64]) -> bool {
         unsafe { jubaxendi_report(file.as_ptr(), file.len(), text.as_mut_ptr(), text.len(), answer.as_mut_ptr(), answer.len()) }
+    }
+
+    fn segments(&self, file: &[u8], table: &mut [u64], answer: &mut [u64]) -> bool {
+        unsafe { jubaxendi_segments(file.as_ptr(), file.len(), table.as_mut_ptr(), table.len(), answer.as_mut_ptr(), answer.len()) }
     }
 
     fn ceiling(&self, places: u64, additions: u64, answer: &mut [u64]) -> bool {

@@ -5,7 +5,7 @@
 //! compare --mistake NUMBER ..                         the same, with a mistake in the second implementation
 //! compare --mutations [--cases N] [--seed S]          each mistake in turn; all must be found
 //! compare --print                                     what `breakers` must print of standard input
-//! compare --time                                      how long Check, Total and Report of standard input take
+//! compare --time                                      how long Check, Total, Segments and Report of standard input take
 //!
 //! Where the engine is not linked, the second implementation without mistakes stands in for it, and a mistake must be named.
 
@@ -251,13 +251,14 @@ fn fastest(call: &mut dyn FnMut()) -> u128 {
     least
 }
 
-/// For each of three calls its name, the engine's time and that of the second implementation, in nanoseconds.
+/// For each of four calls its name, the engine's time and that of the second implementation, in nanoseconds.
 fn time(options: &Options) -> bool {
     let mut file = Vec::new();
     let read = std::io::stdin().read_to_end(&mut file);
     let engine = engine(options);
     let mut answer = [0; 6];
     let mut text = vec![0; 32_768];
+    let mut table = vec![0; 7_680];
     let both = |name: &str, call: &mut dyn FnMut(&dyn Calls)| {
         let ours = fastest(&mut || call(&*engine));
         // a new one each time, since it keeps the last file
@@ -266,6 +267,7 @@ fn time(options: &Options) -> bool {
     };
     both("Check", &mut |calls| assert!(calls.check(&file, &mut answer)));
     both("Total", &mut |calls| assert!(calls.total(&file, &mut answer)));
+    both("Segments", &mut |calls| assert!(calls.segments(&file, &mut table, &mut answer)));
     both("Report", &mut |calls| assert!(calls.report(&file, &mut text, &mut answer)));
     read.is_ok()
 }

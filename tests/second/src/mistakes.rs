@@ -103,6 +103,19 @@ mistakes! {
     ReportEmptyC: "`C` and `B` leave out the members of a spent search",
     RefusedReport: "the program prints `A` with noughts before `X`",
 
+    // The segment table
+    SegmentsByEnd: "the segment table is ordered by end, then line",
+    SegmentsTrippingOnly: "breakers that trip for no weight are left out of the segment table",
+    SegmentsIdleEmpty: "a breaker that trips for no weight has no customers behind it",
+    SegmentsAllBehind: "a breaker's weights are those of all lines behind it, past the next breaker",
+    SegmentsToNext: "a breaker's customers are counted up to the next breaker",
+    SegmentsLastLost: "the segment table leaves out the last breaker end",
+    SegmentsEndFirst: "an entry of the segment table has its end before its line",
+    TableShorter: "Segments accepts 7,679 numbers",
+    TableLonger: "Segments wants 7,681 numbers",
+    TableCleared: "the number behind the segment table is cleared",
+    EntriesAsNumbers: "Segments answers how many numbers the table has",
+
     // Calls
     MembersUnwritten: "members are not written by a spent search",
     MembersCleared: "the rest of the buffer lent to Search is cleared",

@@ -263,20 +263,63 @@ impl Network {
         }
     }
 
-    /// The customers that a fault on the line cuts off, with breakers added.
-    pub fn impact(&self, line: usize, added: &[End]) -> u64 {
+    /// The breaker end that trips for a fault on the line, with breakers added.
+    fn trips(&self, line: usize, added: &[End]) -> Option<End> {
         let path = self.fault_path(line);
-        let mut trips = path.iter().copied().find(|&e| self.is_breaker(e, added));
+        let trips = path.iter().copied().find(|&e| self.is_breaker(e, added));
         if self.wrong == Some(FarEndClears) {
             let near = self.line_paths[line].first().copied();
             let far = near.map(|e| e ^ 1).filter(|&e| self.file.lines[line].states[e % 2] != OPEN && self.is_breaker(e, added));
-            trips = far.or(trips);
+            return far.or(trips);
         }
-        let Some(trips) = trips else { return 0 };
+        trips
+    }
+
+    /// The segment table: for each breaker end its line and end, the weights of the lines it trips for, the customers behind it and
+    /// their product.
+    pub fn segments(&self) -> Vec<[u64; 5]> {
+        let mut ends: Vec<End> = (0..2 * self.file.lines.len()).filter(|&e| self.is_breaker(e, &[])).collect();
+        match self.wrong {
+            Some(SegmentsByEnd) => ends.sort_by_key(|&e| (e % 2, e)),
+            Some(SegmentsLastLost) => drop(ends.pop()),
+            _ => {}
+        }
+        let mut table: Vec<[u64; 5]> = ends.into_iter().map(|end| self.segment(end)).collect();
+        match self.wrong {
+            Some(SegmentsTrippingOnly) => table.retain(|entry| entry[2] != 0),
+            Some(SegmentsEndFirst) => table.iter_mut().for_each(|entry| entry.swap(0, 1)),
+            _ => {}
+        }
+        table
+    }
+
+    /// The entry of a breaker end: the lines are looked through for those that it trips for.
+    fn segment(&self, end: End) -> [u64; 5] {
+        let counts = |line: usize| match self.wrong {
+            Some(SegmentsAllBehind) => self.line_paths[line].contains(&end),
+            _ => self.trips(line, &[]) == Some(end),
+        };
+        let weight: u64 = (0..self.file.lines.len()).filter(|&l| counts(l)).map(|l| self.file.lines[l].weight).sum();
+        let customers = match self.wrong {
+            Some(SegmentsToNext) => self.customers_to_next(end, &[]),
+            Some(SegmentsIdleEmpty) if weight == 0 => 0,
+            _ => self.behind[end],
+        };
+        [end as u64 / 2 + 1, end as u64 % 2 + 1, weight, customers, weight * customers]
+    }
+
+    /// The customers of the stations for which a breaker is the first on their path.
+    fn customers_to_next(&self, breaker: End, added: &[End]) -> u64 {
+        let near = |path: &Vec<End>| path.iter().copied().find(|&e| self.is_breaker(e, added)) == Some(breaker);
+        let stations = self.file.stations.iter().zip(&self.station_paths);
+        stations.filter(|(_, path)| near(path)).map(|(s, _)| s.customers).sum()
+    }
+
+    /// The customers that a fault on the line cuts off, with breakers added.
+    pub fn impact(&self, line: usize, added: &[End]) -> u64 {
+        let Some(trips) = self.trips(line, added) else { return 0 };
         if self.wrong == Some(UpToNextBreaker) {
-            let near = |path: &Vec<End>| path.iter().copied().find(|&e| self.is_breaker(e, added)) == Some(trips);
-            let stations = self.file.stations.iter().zip(&self.station_paths);
-            return stations.filter(|(_, path)| near(path)).map(|(s, _)| s.customers).sum();
+            return self.customers_to_next(trips, added);
         }
         self.behind[trips]
     }

@@ -1,0 +1,80 @@
+use borrow.Author.Needs.{needs}
+use Rattle.engine.proofs.Loads.{accepted-holds}
+use Rattle.engine.proofs.Tabling.{short-refused, file-refused, file-tabled}
+use Rattle.engine.proofs.segments.Statement.{statement}
+use Rattle.engine.proofs.segments.Tie as tie
+
+returns : tie.Need-returns
+returns c = short-refused (c .before .before .before .args .file .now) (c .before .before .before .args .table .now) (c .if1 .taken)
+
+net-space-requires : tie.Need-net-space-requires
+net-space-requires c κs = search needs
+
+stations-space-requires : tie.Need-stations-space-requires
+stations-space-requires c κs = search needs
+
+nexts-space-requires : tie.Need-nexts-space-requires
+nexts-space-requires c κs = search needs
+
+lines-space-requires : tie.Need-lines-space-requires
+lines-space-requires c κs = search needs
+
+lines-space-requires-2 : tie.Need-lines-space-requires-2
+lines-space-requires-2 c κs = search needs
+
+lines-space-requires-3 : tie.Need-lines-space-requires-3
+lines-space-requires-3 c κs = search needs
+
+load-requires : tie.Need-load-requires
+load-requires c κs = search needs
+
+enum-known-number : tie.Need-enum-known-number
+enum-known-number c = search needs
+
+enum-told : tie.Need-enum-told
+enum-told c = search needs
+
+table-network-requires : tie.Need-table-network-requires
+table-network-requires c κs =
+    let d = c .before .before .before .before .before .before .before .before .before in
+    let i = d .before .before .before .before .before .before .before .before .before .before .before .before .before in
+    let e = c .before .before .before .before .before .before .before .enum-told .given .1 in
+    (accepted-holds (i .before .before .before .args .file .now) (d .load .last .1 .0) (d .load .result) (d .load .ensures .0) e, d .load .ensures .1 e, i .if1 .left)
+
+returns-2 : tie.Need-returns-2
+returns-2 c =
+    let d = c .before .before .before in
+    let i = d .before .before .before .before .before .before .before .before .before .before .before .before .before in
+    let a = i .before .before .before .args in
+    file-refused (a .file .now) (a .table .now) (i .if1 .left) (d .load .last .1 .0) (d .load .result) (d .load .ensures .0) (c .before .number .given .1)
+
+same-length : tie.Need-same-length
+same-length c = search needs
+
+returns-3 : tie.Need-returns-3
+returns-3 c =
+    let n = c .before .before .table-network in
+    let k = c .before .before .before .before .before .before .before .before .before .before in
+    let d = k .before .before in
+    let i = d .before .before .before .before .before .before .before .before .before .before .before .before .before in
+    let a = i .before .before .before .args in
+    file-tabled (a .file .now) (a .table .now) (i .if1 .left) (d .load .last .1 .0) (d .load .result) (d .load .ensures .0) (n .result) _ (k .enum-told .given .1) (n .ensures .0) (n .ensures .1)
+
+pub segments-spec : {M : Type 1} → statement M
+segments-spec =
+    tie.close
+    (tie.spec
+    returns
+    net-space-requires
+    stations-space-requires
+    nexts-space-requires
+    lines-space-requires
+    lines-space-requires-2
+    lines-space-requires-3
+    load-requires
+    enum-known-number
+    enum-told
+    table-network-requires
+    returns-2
+    same-length
+    returns-3)

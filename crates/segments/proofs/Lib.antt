@@ -1,0 +1,3 @@
+pub mod Weights
+pub mod Entry
+pub mod Table

@@ -1,0 +1,54 @@
+use mathlib.Core.Path.{refl, sym, _∙_}
+use mathlib.Core.List.{[]}
+use native.Mathlib.Omega.{arith}
+use Rattle.buffer.specs.Buffer.{networkIn}
+use Rattle.text.proofs.Listing.{same-text}
+use Rattle.segments.proofs.Entry.{entry-none, amount-fits, entry-is}
+use borrow.Author.Needs.{needs}
+use Rattle.segments.proofs.put_end.Statement.{statement}
+use Rattle.segments.proofs.put_end.Tie as tie
+
+has-entry-requires : tie.Need-has-entry-requires
+has-entry-requires c κs = search needs
+
+breaker-weight-requires : tie.Need-breaker-weight-requires
+breaker-weight-requires c κs = search needs
+
+line-customers-requires : tie.Need-line-customers-requires
+line-customers-requires c κs = search needs
+
+put-entry-requires : tie.Need-put-entry-requires
+put-entry-requires c κs =
+    let s = c .before .before .before .before .before .before in
+    let g = s .args in
+    (s .pre .4, amount-fits (networkIn (g .net .now)) (g .line) (g .side) (s .pre .0) (g .sums .now) (g .weights .now) (s .pre .1) (s .pre .2) (s .pre .3 .line .low) (s .pre .3 .line .high) (sym (c .before .before .before .before .has-entry .ensures) ∙ c .before .before .before .if1 .taken) _ _ (c .before .before .breaker-weight .ensures) (c .before .line-customers .ensures))
+
+same-length : tie.Need-same-length
+same-length c = search needs
+
+returns : tie.Need-returns
+returns c =
+    let s = c .before .before .before .before .before .before .before .before .before in
+    let g = s .args in
+    let i = entry-is (networkIn (g .net .now)) (g .line) (g .side) (s .pre .0) (g .sums .now) (g .weights .now) (s .pre .1) (s .pre .2) (s .pre .3 .line .low) (s .pre .3 .line .high) (sym (c .before .before .before .before .before .before .before .has-entry .ensures) ∙ c .before .before .before .before .before .before .if1 .taken) _ _ (c .before .before .before .before .before .breaker-weight .ensures) (c .before .before .before .before .line-customers .ensures) in
+    let t = same-text _ _ (g .table .now) _ 5 i refl (c .before .before .put-entry .ensures) in
+    (t .0, t .1, omega arith)
+
+returns-2 : tie.Need-returns-2
+returns-2 c =
+    let s = c .before .before .before in
+    let g = s .args in
+    let t = same-text [] _ (g .table .now) (g .table .now) 0 (sym (entry-none (networkIn (g .net .now)) (g .line) (g .side) (sym (c .before .has-entry .ensures) ∙ c .if1 .left))) refl refl in
+    (t .0, t .1, omega arith)
+
+pub put-end-spec : {M : Type 1} → statement M
+put-end-spec =
+    tie.close
+    (tie.spec
+    has-entry-requires
+    breaker-weight-requires
+    line-customers-requires
+    put-entry-requires
+    same-length
+    returns
+    returns-2)

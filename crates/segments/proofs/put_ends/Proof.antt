@@ -1,0 +1,57 @@
+use native.Mathlib.Omega.{arith}
+use Rattle.model.specs.Paths.{end1, end2}
+use Rattle.buffer.specs.Buffer.{networkIn}
+use Rattle.text.proofs.Over.{over}
+use Rattle.text.proofs.Listing.{behind}
+use Rattle.segments.specs.Entries.{entryOf}
+use borrow.Author.Needs.{needs}
+use Rattle.segments.proofs.put_ends.Statement.{statement}
+use Rattle.segments.proofs.put_ends.Tie as tie
+
+put-end-requires : tie.Need-put-end-requires
+put-end-requires c κs = search needs
+
+mul-put-end : tie.Need-mul-put-end
+mul-put-end c = search needs
+
+sub-put-end : tie.Need-sub-put-end
+sub-put-end c = search needs
+
+part-put-end-start : tie.Need-part-put-end-start
+part-put-end-start c = search needs
+
+part-put-end-end : tie.Need-part-put-end-end
+part-put-end-end c = search needs
+
+put-end-requires-2 : tie.Need-put-end-requires-2
+put-end-requires-2 c κs = search needs
+
+add-result : tie.Need-add-result
+add-result c = search needs
+
+same-length : tie.Need-same-length
+same-length c = search needs
+
+returns : tie.Need-returns
+unfolding over
+returns c =
+    let s = c .before .before .before .before .before .before .before .before .before in
+    let p = c .before .before .before .before .before .before .put-end in
+    let q = c .before .before .put-end2 in
+    let N = networkIn (s .args .net .now) in
+    let t = behind (entryOf N (end1 (s .args .line))) (entryOf N (end2 (s .args .line))) (s .args .table .now) (p .last .1 .1 .1 .1 .1 .0) (q .last .1 .1 .1 .1 .1 .0) _ _ (p .ensures .0, p .ensures .1) (q .ensures .0) (q .ensures .1) in
+    (t .0, t .1, omega arith)
+
+pub put-ends-spec : {M : Type 1} → statement M
+put-ends-spec =
+    tie.close
+    (tie.spec
+    put-end-requires
+    mul-put-end
+    sub-put-end
+    part-put-end-start
+    part-put-end-end
+    put-end-requires-2
+    add-result
+    same-length
+    returns)

@@ -1,0 +1,61 @@
+use mathlib.Core.Path.{_∙_}
+use mathlib.Core.List.{_∷_}
+use native.Mathlib.Omega.{arith}
+use lib.ListN.{drop, length-set}
+use Rattle.segments.proofs.Entry.{five}
+use borrow.Author.Needs.{needs}
+use Rattle.segments.proofs.put_entry.Statement.{statement}
+use Rattle.segments.proofs.put_entry.Tie as tie
+
+slice-write-table : tie.Need-slice-write-table
+slice-write-table c = search needs
+
+slice-write-table-2 : tie.Need-slice-write-table-2
+slice-write-table-2 c = simp length-set (omega arith)
+
+number-requires : tie.Need-number-requires
+number-requires c κs = search needs
+
+slice-write-table-3 : tie.Need-slice-write-table-3
+slice-write-table-3 c = simp length-set (omega arith)
+
+number-requires-2 : tie.Need-number-requires-2
+number-requires-2 c κs = search needs
+
+slice-write-table-4 : tie.Need-slice-write-table-4
+slice-write-table-4 c = simp length-set (omega arith)
+
+times-requires : tie.Need-times-requires
+times-requires c κs = search needs
+
+number-requires-3 : tie.Need-number-requires-3
+number-requires-3 c κs = search needs
+
+slice-write-table-5 : tie.Need-slice-write-table-5
+slice-write-table-5 c = search needs
+
+same-length : tie.Need-same-length
+same-length c = search needs
+
+returns : tie.Need-returns
+returns c =
+    let s = c .before .before .before .before .before in
+    let g = s .args in
+    five (g .table .now) _ _ _ _ _ (s .pre .0)
+    ∙ (λ i. g .line ∷ g .side ∷ c .before .before .before .number .ensures i ∷ c .before .before .number2 .ensures i ∷ (c .number3 .ensures ∙ c .before .times .ensures) i ∷ drop 5 (g .table .now))
+
+pub put-entry-spec : {M : Type 1} → statement M
+put-entry-spec =
+    tie.close
+    (tie.spec
+    slice-write-table
+    slice-write-table-2
+    number-requires
+    slice-write-table-3
+    number-requires-2
+    slice-write-table-4
+    times-requires
+    number-requires-3
+    slice-write-table-5
+    same-length
+    returns)
