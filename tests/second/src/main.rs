@@ -239,16 +239,11 @@ fn print() -> bool {
     read.and_then(|_| std::io::stdout().write_all(&printed)).is_ok()
 }
 
-/// The fastest of many runs of a call, in nanoseconds.
-fn fastest(call: &mut dyn FnMut()) -> u128 {
-    let begin = Instant::now();
-    let mut least = u128::MAX;
-    while begin.elapsed() < Duration::from_millis(300) {
-        let start = Instant::now();
-        call();
-        least = least.min(start.elapsed().as_nanos());
-    }
-    least
+/// Nanoseconds of one run.
+fn nanoseconds(run: &mut dyn FnMut()) -> u128 {
+    let start = Instant::now();
+    run();
+    start.elapsed().as_nanos()
 }
 
 /// For each of four calls its name, the engine's time and that of the second implementation, in nanoseconds.
@@ -259,10 +254,15 @@ fn time(options: &Options) -> bool {
     let mut answer = [0; 6];
     let mut text = vec![0; 32_768];
     let mut table = vec![0; 7_680];
+    // the fastest of many runs, one of each side in turn
     let both = |name: &str, call: &mut dyn FnMut(&dyn Calls)| {
-        let ours = fastest(&mut || call(&*engine));
-        // a new one each time, since it keeps the last file
-        let second = fastest(&mut || call(&Second::new(None)));
+        let (mut ours, mut second) = (u128::MAX, u128::MAX);
+        let begin = Instant::now();
+        while begin.elapsed() < Duration::from_secs(1) {
+            ours = ours.min(nanoseconds(&mut || call(&*engine)));
+            // a new one each time, since it keeps the last file
+            second = second.min(nanoseconds(&mut || call(&Second::new(None))));
+        }
         println!("{name} {ours} {second}");
     };
     both("Check", &mut |calls| assert!(calls.check(&file, &mut answer)));
