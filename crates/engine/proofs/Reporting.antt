@@ -4,7 +4,6 @@ use mathlib.Core.Path.{_≡_, sym, ap, _∙_}
 use mathlib.Core.List.{List, _++_}
 use lib.ListN.{length, drop}
 use Rattle.model.specs.Answer.{Answer, given, refused, _>>=_}
-use Rattle.model.specs.Network.{Network}
 use Rattle.model.specs.Text.{reportText}
 use Rattle.model.specs.Rules.{accepted}
 use Rattle.model.specs.Calls.{written, reported, reportAnswered, reportLeaves, reportSays}

@@ -1,5 +1,5 @@
 -- The breakers that trip for the lines: where they are, the customers behind them and the weights that they trip for.
-use Prim.Native.Nat.{ℕ, zero, suc, _+_, _*_, _-_, _/_, _≤_, _<_}
+use Prim.Native.Nat.{ℕ, _+_, _*_, _-_, _/_, _≤_, _<_}
 use mathlib.Core.Path.{_≡_, refl, sym, ap, _∙_}
 use mathlib.Core.Bool.{Bool, true, false, true≢false}
 use mathlib.Core.List.{List}
@@ -8,19 +8,15 @@ use native.Mathlib.Omega.{arith}
 use lib.Dec.{eqb}
 use lib.ListN.{length, getD, set}
 use lib.Seq.{getD-set-same, getD-set-other}
-use borrow.Author.Tests.{eqb-true, eq-eqb, ne-eqb}
-use Rattle.model.specs.Lists.{numbers, numbered}
-use Rattle.model.specs.Network.{Network, noLine}
-use Rattle.model.specs.Paths.{End, sameEnd, lineNumbers, state, isOpen, isBreaker}
+use borrow.Author.Tests.{eq-eqb, ne-eqb}
+use Rattle.model.specs.Network.{Network}
+use Rattle.model.specs.Paths.{End, sameEnd, isOpen}
 use Rattle.model.specs.Outage.{tripped, impact}
-use Rattle.model.specs.Segments.{weightTripped}
-use Rattle.graphs.specs.Sum.{on, sumOver, sum-ext}
 use Rattle.savings.specs.Facts.{sameEnd-eq, sameEnd-refl}
 use Rattle.theory.specs.Reading.{Read}
-use Rattle.theory.specs.Ends.{numbers-in, closed-end}
+use Rattle.theory.specs.Ends.{breaker-closed, closed-end}
 use Rattle.theory.specs.Radial.{Rules}
-use Rattle.theory.specs.Sizes.{read-sized}
-use Rattle.theory.specs.Behind.{side-of, kept-sum}
+use Rattle.theory.specs.Behind.{side-of}
 use Rattle.theory.specs.Segments.{tripped-breaker}
 use Rattle.tree.specs.Linked.{endCode}
 use Rattle.outage.specs.Held.{HoldsCustomers, HoldsTrips}
@@ -30,9 +26,6 @@ use Rattle.outage.proofs.Paths.{behind-line}
 -- an end of a line
 abbrev There : Network → End → Type 0
 There N e = (1 ≤ e .line) × (e .line ≤ length (N .lines)) × (1 ≤ e .side) × (e .side ≤ 2)
-
-pub breaker-closed : (N : Network) (e : End) → isBreaker N e ≡ true → isOpen N e ≡ false
-breaker-closed N e b = ap (λ n. eqb n 2) (eqb-true (state N e) 1 b)
 
 closed-there : (N : Network) (e : End) → isOpen N e ≡ false → There N e
 closed-there N e c = let x = closed-end N e c in let s = side-of N e c in (x .0, x .1, s .0, s .1)

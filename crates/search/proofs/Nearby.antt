@@ -5,12 +5,10 @@ use mathlib.Core.Bool.{Bool, true, false, _||_, true≢false}
 use mathlib.Core.Logic.{⊎-elim}
 use mathlib.Core.List.{List, [], _∷_, List·Memᴰ, List·Memᴰ·not-nil, List·Memᴰ·cases-cons}
 use native.Mathlib.Omega.{arith}
-use lib.Dec.{eqb}
 use lib.ListN.{length}
-use borrow.Author.Tests.{eqb-true}
 use Rattle.model.specs.Lists.{any, firstOr}
 use Rattle.model.specs.Network.{Network}
-use Rattle.model.specs.Paths.{Vertex, station, line, End, sameEnd, state, isBreaker, isOpen, stationAt}
+use Rattle.model.specs.Paths.{Vertex, station, line, End, sameEnd, isBreaker, isOpen, stationAt}
 use Rattle.model.specs.Outage.{pathToHV, noEnd, customersBehind}
 use Rattle.model.specs.Sets.{placeNumbers}
 use Rattle.graphs.specs.Graph.{Fresh}
@@ -19,7 +17,7 @@ use Rattle.savings.specs.First.{this, first-mono}
 use Rattle.savings.specs.Tree.{rising-path}
 use Rattle.savings.specs.Breakers.{endAt, Valid}
 use Rattle.savings.specs.Totals.{breakersWith}
-use Rattle.theory.specs.Ends.{in-numbers, closed-end}
+use Rattle.theory.specs.Ends.{in-numbers, breaker-closed, closed-end}
 use Rattle.theory.specs.Radial.{In, station-in}
 use Rattle.theory.specs.Forest.{end-first, tree}
 use Rattle.theory.specs.Best.{Accepted, place-closed}
@@ -102,7 +100,7 @@ module _ (N : Network) (a : Accepted N) where
         among (p ∷ S) v d h = or-cases (sameEnd d (endAt N p)) _ (λ s. ap (isOpen N) (sameEnd-eq d (endAt N p) s) ∙ v .0) (λ k. among S (v .1) d k) h
 
         closed-of : (d : End) → B d ≡ true → isOpen N d ≡ false
-        closed-of d h = or-cases (isBreaker N d) _ (λ b. ap (λ n. eqb n 2) (eqb-true (state N d) 1 b)) (among S v d) h
+        closed-of d h = or-cases (isBreaker N d) _ (breaker-closed N d) (among S v d) h
 
     -- no fewer customers are behind its near breaker
     pub behind-near : customersBehind N e ≤ customersBehind N (nearAt N S e)

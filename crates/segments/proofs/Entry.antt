@@ -1,6 +1,6 @@
 -- The entry of an end: five numbers over the start of a list, if it is a breaker.
 use Prim.Native.Nat.{ℕ, _+_, _*_, _-_, _^_, _≤_, _<_}
-use mathlib.Core.Path.{_≡_, refl, sym, ap, ap₂, _∙_}
+use mathlib.Core.Path.{_≡_, refl, sym, ap₂, _∙_}
 use mathlib.Core.Bool.{true, false}
 use mathlib.Core.List.{List, [], _∷_}
 use native.Mathlib.Omega.{arith}
@@ -11,11 +11,11 @@ use Rattle.model.specs.Outage.{customersBehind}
 use Rattle.model.specs.Segments.{weightTripped, segmentAmount, segment}
 use Rattle.theory.specs.Sizes.{read-sized}
 use Rattle.theory.specs.Segments.{segmentAmount-size}
+use Rattle.theory.specs.Ends.{breaker-closed}
 use Rattle.theory.specs.Best.{Accepted}
 use Rattle.buffer.specs.Fits.{endIn}
 use Rattle.outage.specs.Held.{HoldsCustomers}
 use Rattle.outage.proofs.Paths.{behind-line}
-use Rattle.outage.proofs.Breakers.{breaker-closed}
 use Rattle.segments.specs.Entries.{HoldsWeights, entryOf}
 
 pub five : (b : List ℕ) (v w x y z : ℕ) → 5 ≤ length b → set (set (set (set (set b 0 v) 1 w) 2 x) 3 y) 4 z ≡ v ∷ w ∷ x ∷ y ∷ z ∷ drop 5 b

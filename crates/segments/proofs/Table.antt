@@ -1,6 +1,6 @@
 -- The segment table line by line, and how many numbers it has.
-use Prim.Native.Nat.{ℕ, _*_, _≤_}
-use mathlib.Core.Path.{_≡_, refl, sym, ap, _∙_}
+use Prim.Native.Nat.{ℕ, _*_}
+use mathlib.Core.Path.{_≡_, refl, ap}
 use mathlib.Core.Bool.{Bool, true, false}
 use mathlib.Core.List.{List, [], _∷_, _++_, flatMap}
 use native.Mathlib.Omega.{arith}
@@ -9,7 +9,7 @@ use Rattle.model.specs.Lists.{keep}
 use Rattle.model.specs.Network.{Network}
 use Rattle.model.specs.Paths.{End, end1, end2, lineNumbers, isBreaker}
 use Rattle.model.specs.Segments.{breakerEnds, segment, segmentTable}
-use Rattle.segments.specs.Entries.{entryOf, entriesOf}
+use Rattle.segments.specs.Entries.{entriesOf}
 
 module _ (N : Network) where
   ends-of : ℕ → List End

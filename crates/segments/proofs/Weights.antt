@@ -16,13 +16,13 @@ use Rattle.model.specs.Outage.{tripped}
 use Rattle.model.specs.Segments.{weightOf, weightTripped}
 use Rattle.graphs.specs.Sum.{on, sumOver, sum-ext}
 use Rattle.theory.specs.Reading.{Read}
-use Rattle.theory.specs.Ends.{numbers-in}
+use Rattle.theory.specs.Ends.{numbers-in, breaker-closed}
 use Rattle.theory.specs.Radial.{Rules}
 use Rattle.theory.specs.Sizes.{read-sized}
 use Rattle.theory.specs.Behind.{kept-sum}
 use Rattle.theory.specs.Segments.{tripped-breaker}
 use Rattle.tree.specs.Linked.{endCode}
-use Rattle.outage.proofs.Breakers.{breaker-closed, code-test}
+use Rattle.outage.proofs.Breakers.{code-test}
 use Rattle.segments.specs.Entries.{HoldsWeights}
 
 module _ (N : Network) where

@@ -11,7 +11,7 @@ use lib.Dec.{eqb}
 use borrow.Author.Tests.{eqb-true, eq-eqb, not-true}
 use Rattle.model.specs.Lists.{any, keep, numbers, numbered}
 use Rattle.model.specs.Network.{Network, Line, noLine, stateAt}
-use Rattle.model.specs.Paths.{Vertex, station, line, sameVertex, End, sameEnd, end1, end2, lineNumbers, state, isOpen, stationAt, closedEnds, isAt, across, pathsFrom, paths, target}
+use Rattle.model.specs.Paths.{Vertex, station, line, sameVertex, End, sameEnd, end1, end2, lineNumbers, state, isBreaker, isOpen, stationAt, closedEnds, isAt, across, pathsFrom, paths, target}
 use Rattle.graphs.specs.Graph.{Walk, stop, step, Fresh, NoRepeat, Trail, Edges}
 use Rattle.graphs.specs.Behind.{short, same-dec}
 use Rattle.savings.specs.Facts.{both, or-left, or-right, or-cases, sameEnd-eq, sameEnd-refl}
@@ -165,6 +165,10 @@ module _ (N : Network) where
   joins-at {e} (into c p q) = (ap (λ x. isAt N x e) p ∙ at-station e, ap (λ x. across N x e) p ∙ sym q)
 
   -- ── the closed ends ──
+  -- a breaker is closed
+  pub breaker-closed : (e : End) → isBreaker N e ≡ true → isOpen N e ≡ false
+  breaker-closed e b = ap (λ n. eqb n 2) (eqb-true (state N e) 1 b)
+
   -- an end that is not open is an end of a line of the file
   pub closed-end : (e : End) → isOpen N e ≡ false → (1 ≤ e .line) × (e .line ≤ length (N .lines)) × ((e ≡ end1 (e .line)) ⊎ (e ≡ end2 (e .line)))
   unfolding state

@@ -6,23 +6,20 @@ use mathlib.Core.Logic.{_≢_, ⊎-elim}
 use mathlib.Core.List.{List, [], _∷_, _++_, append-assoc, map, flatMap, List·Memᴰ, List·Memᴰ·head, List·Memᴰ·tail}
 use native.Mathlib.Nat.{add-mul, mul-le-mul}
 use native.Mathlib.Omega.{arith}
-use lib.Dec.{eqb}
 use lib.ListN.{length, getD, List·getD-append}
 use lib.Seq.{getD-append-add}
-use borrow.Author.Tests.{eqb-true}
 use Rattle.model.specs.Lists.{sum, keep, numbers}
 use Rattle.model.specs.Network.{Network}
-use Rattle.model.specs.Paths.{Vertex, line, End, sameEnd, end1, end2, lineNumbers, isBreaker, isOpen, state}
+use Rattle.model.specs.Paths.{line, End, sameEnd, end1, end2, lineNumbers, isBreaker}
 use Rattle.model.specs.Outage.{pathToHV, noEnd, tripped, customersBehind, impact, outageAmount, total}
 use Rattle.model.specs.Segments.{breakerEnds, weightOf, weightTripped, segmentAmount, segment, segmentTable, column, allWeights, ByBreaker}
 use Rattle.graphs.specs.Graph.{NoRepeat}
 use Rattle.graphs.specs.Sum.{on, sumOver, sum-ext, sum-one, sum-swap}
 use Rattle.savings.specs.Facts.{sameEnd-eq, sameEnd-refl}
-use Rattle.savings.specs.Tree.{Tree}
 use Rattle.theory.specs.Reading.{Read}
 use Rattle.theory.specs.Radial.{Rules}
 use Rattle.theory.specs.Sizes.{Sized, sum-most, keep-length, numbers-length, customersBehind-size}
-use Rattle.theory.specs.Ends.{in-keep, in-flat, in-numbers, numbers-in, closed-end}
+use Rattle.theory.specs.Ends.{in-keep, in-flat, in-numbers, numbers-in, breaker-closed, closed-end}
 use Rattle.theory.specs.Behind.{keep-once, ends-once, numbers-once, kept-sum}
 use Rattle.theory.specs.Forest.{firstOr-found, tree}
 use Rattle.theory.specs.Best.{Accepted}
@@ -94,16 +91,16 @@ module _ (N : Network) (a : Accepted N) where
   unfolding breakerEnds lineNumbers
   breakers-once = keep-once (λ e. isBreaker N e) (flatMap (λ l. end1 l ∷ end2 l ∷ []) (numbers 1 (length (N .lines)))) (ends-once (numbers 1 (length (N .lines))) (numbers-once 1 (length (N .lines))))
 
-  pub breaker-listed : (e : End) → isBreaker N e ≡ true → List·Memᴰ e (breakerEnds N)
+  breaker-listed : (e : End) → isBreaker N e ≡ true → List·Memᴰ e (breakerEnds N)
   unfolding breakerEnds lineNumbers
   breaker-listed e b =
-      let x = closed-end N e (ap (λ n. eqb n 2) (eqb-true (state N e) 1 b)) in
+      let x = closed-end N e (breaker-closed N e b) in
       in-keep (λ d. isBreaker N d) e _
       (in-flat (λ l. end1 l ∷ end2 l ∷ []) (e .line) e (numbers 1 (length (N .lines))) (in-numbers (e .line) 1 (length (N .lines)) (x .0) (omega (arith, x .1)))
       (⊎-elim (λ p. List·Memᴰ·head p) (λ p. List·Memᴰ·tail (List·Memᴰ·head p)) (x .2)))
       b
 
-  pub tripped-listed : (l : ℕ) → List·Memᴰ l (lineNumbers N) → List·Memᴰ (tripped N l) (breakerEnds N)
+  tripped-listed : (l : ℕ) → List·Memᴰ l (lineNumbers N) → List·Memᴰ (tripped N l) (breakerEnds N)
   unfolding lineNumbers
   tripped-listed l m = let i = numbers-in l 1 (length (N .lines)) m in breaker-listed (tripped N l) (tripped-breaker N (a .read) (a .rules) l (i .0) (omega (arith, i .1)))
 

@@ -8,14 +8,13 @@ use native.Mathlib.Decide.{ℕ-discrete}
 use native.Mathlib.Omega.{arith}
 use lib.ListN.{length, getD, set}
 use lib.Seq.{getD-set-same, getD-set-other}
-use borrow.Author.Tests.{eqb-true, ne-eqb}
 use Rattle.model.specs.Network.{Network, headOf}
-use Rattle.model.specs.Paths.{Vertex, station, line, End, state, isBreaker, isOpen, stationAt, isHV}
+use Rattle.model.specs.Paths.{Vertex, station, line, End, isBreaker, stationAt, isHV}
 use Rattle.model.specs.Rules.{breakersOn, seriesBroken}
 use Rattle.model.specs.Outage.{pathToHV}
 use Rattle.graphs.specs.Sum.{on}
 use Rattle.theory.specs.Reading.{Read}
-use Rattle.theory.specs.Ends.{closed-end}
+use Rattle.theory.specs.Ends.{breaker-closed, closed-end}
 use Rattle.theory.specs.Radial.{Rules, In, station-in}
 use Rattle.theory.specs.Above.{breakers-count, series-above}
 use Rattle.theory.specs.Behind.{far, side-of}
@@ -41,10 +40,6 @@ module _ (N : Network) where
 
   breakers-none : breakersOn N [] ≡ 0
   breakers-none = breakers-count N []
-
-  -- a breaker is closed
-  breaker-closed : (e : End) → isBreaker N e ≡ true → isOpen N e ≡ false
-  breaker-closed e h = ne-eqb (state N e) 2 (λ q. omega (arith, eqb-true (state N e) 1 h))
 
 -- the lines before place k of the order have their breakers counted, and none has too many
 pub record Counted (N : Network) (order counts : List ℕ) (k : ℕ) : Type 0 where

@@ -4,11 +4,8 @@ use borrow.Author.Needs.{needs}
 use Rattle.buffer.proofs.is_breaker.Statement.{statement}
 use Rattle.buffer.proofs.is_breaker.Tie as tie
 
-end-state-requires : tie.Need-end-state-requires
-end-state-requires c κs = search needs
-
 returns : tie.Need-returns
 returns c = ap (λ n. eqb n 1) (c .end-state .ensures)
 
 pub is-breaker-spec : {M : Type 1} → statement M
-is-breaker-spec = tie.close (tie.spec end-state-requires returns)
+is-breaker-spec = tie.close (tie.spec (search needs) returns)

@@ -7,33 +7,6 @@ use Rattle.engine.proofs.segments.Tie as tie
 returns : tie.Need-returns
 returns c = short-refused (c .before .before .before .args .file .now) (c .before .before .before .args .table .now) (c .if1 .taken)
 
-net-space-requires : tie.Need-net-space-requires
-net-space-requires c κs = search needs
-
-stations-space-requires : tie.Need-stations-space-requires
-stations-space-requires c κs = search needs
-
-nexts-space-requires : tie.Need-nexts-space-requires
-nexts-space-requires c κs = search needs
-
-lines-space-requires : tie.Need-lines-space-requires
-lines-space-requires c κs = search needs
-
-lines-space-requires-2 : tie.Need-lines-space-requires-2
-lines-space-requires-2 c κs = search needs
-
-lines-space-requires-3 : tie.Need-lines-space-requires-3
-lines-space-requires-3 c κs = search needs
-
-load-requires : tie.Need-load-requires
-load-requires c κs = search needs
-
-enum-known-number : tie.Need-enum-known-number
-enum-known-number c = search needs
-
-enum-told : tie.Need-enum-told
-enum-told c = search needs
-
 table-network-requires : tie.Need-table-network-requires
 table-network-requires c κs =
     let d = c .before .before .before .before .before .before .before .before .before in
@@ -47,9 +20,6 @@ returns-2 c =
     let i = d .before .before .before .before .before .before .before .before .before .before .before .before .before in
     let a = i .before .before .before .args in
     file-refused (a .file .now) (a .table .now) (i .if1 .left) (d .load .last .1 .0) (d .load .result) (d .load .ensures .0) (c .before .number .given .1)
-
-same-length : tie.Need-same-length
-same-length c = search needs
 
 returns-3 : tie.Need-returns-3
 returns-3 c =
@@ -65,16 +35,16 @@ segments-spec =
     tie.close
     (tie.spec
     returns
-    net-space-requires
-    stations-space-requires
-    nexts-space-requires
-    lines-space-requires
-    lines-space-requires-2
-    lines-space-requires-3
-    load-requires
-    enum-known-number
-    enum-told
+    (search needs)
+    (search needs)
+    (search needs)
+    (search needs)
+    (search needs)
+    (search needs)
+    (search needs)
+    (search needs)
+    (search needs)
     table-network-requires
     returns-2
-    same-length
+    (search needs)
     returns-3)

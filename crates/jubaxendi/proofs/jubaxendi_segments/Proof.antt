@@ -12,30 +12,6 @@ returns c =
     let w = nothing-written (d .answer .now) (c .if1 .taken) _ in
     (w .0, (buffer-stays (d .answer .now) (c .if1 .taken) _ (d .table .now), w .1))
 
-segments-requires : tie.Need-segments-requires
-segments-requires c κs = search needs
-
-enum-known-number : tie.Need-enum-known-number
-enum-known-number c = search needs
-
-put-refusal-requires : tie.Need-put-refusal-requires
-put-refusal-requires c κs = search needs
-
-enum-known-entries : tie.Need-enum-known-entries
-enum-known-entries c = search needs
-
-slice-aggregate-put-numbers : tie.Need-slice-aggregate-put-numbers
-slice-aggregate-put-numbers c = search needs
-
-put-numbers-requires : tie.Need-put-numbers-requires
-put-numbers-requires c κs = search needs
-
-same-length : tie.Need-same-length
-same-length c = search needs
-
-same-length-2 : tie.Need-same-length-2
-same-length-2 c = search needs
-
 returns-2 : tie.Need-returns-2
 unfolding segmentsSays answerNumbers
 returns-2 c =
@@ -45,12 +21,6 @@ returns-2 c =
     let answer = d .before .before .before .before .args .answer .now in
     let w = case-written answer segmentsSays segmentsNumbers (d .if1 .left) (r .segments .ensures .0) (k .number .given .1) (c .before .before .put-refusal .ensures) in
     (w .0, (r .segments .ensures .1 .0 ∙ buffer-left answer (d .if1 .left) _ _, w .1))
-
-same-length-3 : tie.Need-same-length-3
-same-length-3 c = search needs
-
-same-length-4 : tie.Need-same-length-4
-same-length-4 c = search needs
 
 returns-3 : tie.Need-returns-3
 unfolding segmentsSays answerNumbers
@@ -67,15 +37,15 @@ jubaxendi-segments-spec =
     tie.close
     (tie.spec
     returns
-    segments-requires
-    enum-known-number
-    put-refusal-requires
-    enum-known-entries
-    slice-aggregate-put-numbers
-    put-numbers-requires
-    same-length
-    same-length-2
+    (search needs)
+    (search needs)
+    (search needs)
+    (search needs)
+    (search needs)
+    (search needs)
+    (search needs)
+    (search needs)
     returns-2
-    same-length-3
-    same-length-4
+    (search needs)
+    (search needs)
     returns-3)

@@ -16,9 +16,6 @@ Inv-loop net trips sums out₀ i₀ i-end out i =
 abbrev μ-loop : tie.MeasureT-loop
 μ-loop net trips sums out₀ i₀ i-end out i = i-end - i
 
-lines-requires : tie.Need-lines-requires Inv-loop μ-loop
-lines-requires c κs = search needs
-
 loop-holds : tie.Need-loop-holds Inv-loop μ-loop
 loop-holds c =
     let s = c .before .before in
@@ -75,7 +72,7 @@ impacts-behind-spec =
     (tie.spec
     Inv-loop
     μ-loop
-    lines-requires
+    (search needs)
     loop-holds
     trip-line-requires
     sub-out

@@ -23,15 +23,6 @@ returns c =
     let g = s .args in
     own-trip (g .net .now) (g .near .now) (g .feed .now) (g .trips .now) (g .line) (s .pre .0) (c .near-code .result) (c .near-code .ensures) (sym (c .before .before .near-breaker .ensures) ∙ c .before .if1 .taken)
 
-sub-feeder : tie.Need-sub-feeder
-sub-feeder c = search needs
-
-mul-feeder : tie.Need-mul-feeder
-mul-feeder c = search needs
-
-element-copy-out-feeder : tie.Need-element-copy-out-feeder
-element-copy-out-feeder c = search needs
-
 far-breaker-requires : tie.Need-far-breaker-requires
 far-breaker-requires c κs =
     let s = c .before .before .before .before in
@@ -83,9 +74,9 @@ trip-of-spec =
     near-breaker-requires
     near-code-requires
     returns
-    sub-feeder
-    mul-feeder
-    element-copy-out-feeder
+    (search needs)
+    (search needs)
+    (search needs)
     far-breaker-requires
     far-code-requires
     returns-2

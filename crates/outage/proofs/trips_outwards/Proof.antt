@@ -15,9 +15,6 @@ Inv-loop net near feed order out₀ i₀ i-end out i =
 abbrev μ-loop : tie.MeasureT-loop
 μ-loop net near feed order out₀ i₀ i-end out i = i-end - i
 
-lines-requires : tie.Need-lines-requires Inv-loop μ-loop
-lines-requires c κs = search needs
-
 loop-holds : tie.Need-loop-holds Inv-loop μ-loop
 loop-holds c = (omega arith, omega arith, omega arith, λ j h. absurd (omega arith))
 
@@ -78,7 +75,7 @@ trips-outwards-spec =
     (tie.spec
     Inv-loop
     μ-loop
-    lines-requires
+    (search needs)
     loop-holds
     mul-line
     element-copy-out-line

@@ -8,23 +8,11 @@ use borrow.Author.Needs.{needs}
 use Rattle.segments.proofs.put_end.Statement.{statement}
 use Rattle.segments.proofs.put_end.Tie as tie
 
-has-entry-requires : tie.Need-has-entry-requires
-has-entry-requires c κs = search needs
-
-breaker-weight-requires : tie.Need-breaker-weight-requires
-breaker-weight-requires c κs = search needs
-
-line-customers-requires : tie.Need-line-customers-requires
-line-customers-requires c κs = search needs
-
 put-entry-requires : tie.Need-put-entry-requires
 put-entry-requires c κs =
     let s = c .before .before .before .before .before .before in
     let g = s .args in
     (s .pre .4, amount-fits (networkIn (g .net .now)) (g .line) (g .side) (s .pre .0) (g .sums .now) (g .weights .now) (s .pre .1) (s .pre .2) (s .pre .3 .line .low) (s .pre .3 .line .high) (sym (c .before .before .before .before .has-entry .ensures) ∙ c .before .before .before .if1 .taken) _ _ (c .before .before .breaker-weight .ensures) (c .before .line-customers .ensures))
-
-same-length : tie.Need-same-length
-same-length c = search needs
 
 returns : tie.Need-returns
 returns c =
@@ -45,10 +33,10 @@ pub put-end-spec : {M : Type 1} → statement M
 put-end-spec =
     tie.close
     (tie.spec
-    has-entry-requires
-    breaker-weight-requires
-    line-customers-requires
+    (search needs)
+    (search needs)
+    (search needs)
     put-entry-requires
-    same-length
+    (search needs)
     returns
     returns-2)

@@ -11,26 +11,8 @@ use Rattle.segments.proofs.put_ends.Tie as tie
 put-end-requires : tie.Need-put-end-requires
 put-end-requires c κs = search needs
 
-mul-put-end : tie.Need-mul-put-end
-mul-put-end c = search needs
-
-sub-put-end : tie.Need-sub-put-end
-sub-put-end c = search needs
-
-part-put-end-start : tie.Need-part-put-end-start
-part-put-end-start c = search needs
-
-part-put-end-end : tie.Need-part-put-end-end
-part-put-end-end c = search needs
-
 put-end-requires-2 : tie.Need-put-end-requires-2
 put-end-requires-2 c κs = search needs
-
-add-result : tie.Need-add-result
-add-result c = search needs
-
-same-length : tie.Need-same-length
-same-length c = search needs
 
 returns : tie.Need-returns
 unfolding over
@@ -47,11 +29,11 @@ put-ends-spec =
     tie.close
     (tie.spec
     put-end-requires
-    mul-put-end
-    sub-put-end
-    part-put-end-start
-    part-put-end-end
+    (search needs)
+    (search needs)
+    (search needs)
+    (search needs)
     put-end-requires-2
-    add-result
-    same-length
+    (search needs)
+    (search needs)
     returns)

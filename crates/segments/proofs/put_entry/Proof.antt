@@ -7,35 +7,17 @@ use borrow.Author.Needs.{needs}
 use Rattle.segments.proofs.put_entry.Statement.{statement}
 use Rattle.segments.proofs.put_entry.Tie as tie
 
-slice-write-table : tie.Need-slice-write-table
-slice-write-table c = search needs
-
 slice-write-table-2 : tie.Need-slice-write-table-2
 slice-write-table-2 c = simp length-set (omega arith)
-
-number-requires : tie.Need-number-requires
-number-requires c κs = search needs
 
 slice-write-table-3 : tie.Need-slice-write-table-3
 slice-write-table-3 c = simp length-set (omega arith)
 
-number-requires-2 : tie.Need-number-requires-2
-number-requires-2 c κs = search needs
-
 slice-write-table-4 : tie.Need-slice-write-table-4
 slice-write-table-4 c = simp length-set (omega arith)
 
-times-requires : tie.Need-times-requires
-times-requires c κs = search needs
-
-number-requires-3 : tie.Need-number-requires-3
-number-requires-3 c κs = search needs
-
 slice-write-table-5 : tie.Need-slice-write-table-5
 slice-write-table-5 c = search needs
-
-same-length : tie.Need-same-length
-same-length c = search needs
 
 returns : tie.Need-returns
 returns c =
@@ -48,14 +30,14 @@ pub put-entry-spec : {M : Type 1} → statement M
 put-entry-spec =
     tie.close
     (tie.spec
-    slice-write-table
+    (search needs)
     slice-write-table-2
-    number-requires
+    (search needs)
     slice-write-table-3
-    number-requires-2
+    (search needs)
     slice-write-table-4
-    times-requires
-    number-requires-3
+    (search needs)
+    (search needs)
     slice-write-table-5
-    same-length
+    (search needs)
     returns)

@@ -22,41 +22,17 @@ Inv-loop net sums weights table₀ at₀ line₀ line-end table at line =
 abbrev μ-loop : tie.MeasureT-loop
 μ-loop net sums weights table₀ at₀ line₀ line-end table at line = line-end - line
 
-lines-requires : tie.Need-lines-requires Inv-loop μ-loop
-lines-requires c κs = search needs
-
 add-line-end : tie.Need-add-line-end Inv-loop μ-loop
 add-line-end c = let s = c .before .before in omega (arith, read-sized (networkIn (s .args .net .now)) (s .pre .0 .read) .lineCount)
 
 loop-holds : tie.Need-loop-holds Inv-loop μ-loop
 loop-holds c = (omega arith, omega arith, omega arith, omega arith, listed-none _ _ _)
 
-mul-put-ends : tie.Need-mul-put-ends Inv-loop μ-loop
-mul-put-ends c = search needs
-
-sub-put-ends : tie.Need-sub-put-ends Inv-loop μ-loop
-sub-put-ends c = search needs
-
-part-put-ends-start : tie.Need-part-put-ends-start Inv-loop μ-loop
-part-put-ends-start c = search needs
-
-part-put-ends-end : tie.Need-part-put-ends-end Inv-loop μ-loop
-part-put-ends-end c = search needs
-
 put-ends-requires : tie.Need-put-ends-requires Inv-loop μ-loop
 put-ends-requires c κs =
     let s = c .before .before .before .before .before in
     let N = networkIn (s .args .net .now) in
     (s .pre .0, s .pre .1, s .pre .2, record { fits = read-fits N (s .pre .0 .read); low = omega arith; high = omega arith }, simp (length-take, length-drop) (omega (arith, read-sized _ (s .pre .0 .read) .lineCount)))
-
-add-at : tie.Need-add-at Inv-loop μ-loop
-add-at c = search needs
-
-add-line : tie.Need-add-line Inv-loop μ-loop
-add-line c = search needs
-
-loop-less : tie.Need-loop-less Inv-loop μ-loop
-loop-less c = search needs
 
 loop-again : tie.Need-loop-again Inv-loop μ-loop
 unfolding over
@@ -85,17 +61,17 @@ put-lines-spec =
     (tie.spec
     Inv-loop
     μ-loop
-    lines-requires
+    (search needs)
     add-line-end
     loop-holds
-    mul-put-ends
-    sub-put-ends
-    part-put-ends-start
-    part-put-ends-end
+    (search needs)
+    (search needs)
+    (search needs)
+    (search needs)
     put-ends-requires
-    add-at
-    add-line
-    loop-less
+    (search needs)
+    (search needs)
+    (search needs)
     loop-again
     same-length
     returns)

@@ -18,12 +18,6 @@ Inv-loop net trips weights₀ i₀ i-end weights i =
 abbrev μ-loop : tie.MeasureT-loop
 μ-loop net trips weights₀ i₀ i-end weights i = i-end - i
 
-no-weights-requires : tie.Need-no-weights-requires Inv-loop μ-loop
-no-weights-requires c κs = search needs
-
-lines-requires : tie.Need-lines-requires Inv-loop μ-loop
-lines-requires c κs = search needs
-
 loop-holds : tie.Need-loop-holds Inv-loop μ-loop
 loop-holds c =
     let s = c .before .before .before in
@@ -92,8 +86,8 @@ weights-tripped-spec =
     (tie.spec
     Inv-loop
     μ-loop
-    no-weights-requires
-    lines-requires
+    (search needs)
+    (search needs)
     loop-holds
     trip-code-requires
     mul-weights
