@@ -2,6 +2,7 @@
 ghost use mathlib.Core.Path.{_≡_};
 ghost use mathlib.Core.List.{List, [], _++_};
 ghost use Prim.Native.Nat.{ℕ, _≤_};
+ghost use lib.Dec.{ltb};
 ghost use lib.ListN.{length, take, drop};
 ghost use Rattle.model.specs.Answer.{Answer, given};
 ghost use Rattle.model.specs.Network.{Network};
@@ -504,13 +505,20 @@ fn table_network(
     segments::write_table(net, &trips, &sums, table)
 }
 
+// Whether a lent table is too short: the longest has five numbers for each end of 768 lines.
+fn short_table(room: usize) -> bool
+    ensures { λ r. ⌜ r ≡ ltb room 7680 ⌝ }
+{
+    room < 7680
+}
+
 // Segments: the lines grouped by the breaker that trips for them, five numbers a breaker, at the start of `table`.
 pub fn segments(file: &[u8], table: &mut [u64]) -> SegmentsAnswer
     ensures { λ r. ⌜ segmentsSays r ≡ segmentsAnswered (now (file .entry)) (now (table .entry)) ⌝ }
     ensures { λ r. ⌜ now (table .exit) ≡ segmentsLeaves (now (file .entry)) (now (table .entry)) ⌝ }
     ensures { λ r. ⌜ BreakerByBreaker (now (file .entry)) r (now (table .exit)) ⌝ }
 {
-    if table.len() < 7680 {
+    if short_table(table.len()) {
         return SegmentsAnswer::Refused {
             number: 10,
             record: 0,
