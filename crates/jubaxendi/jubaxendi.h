@@ -50,8 +50,8 @@ bool jubaxendi_report(const uint8_t *file, size_t file_length, uint8_t *text, si
 
 /*
  * Segments: the lines grouped by the breaker that trips for them. answer[2] is the number of breaker ends. For each of them, by line
- * and end, five numbers are written at the start of `table`: line, end, the weights of the lines that it trips for, the customers
- * behind it, and the product of these two. `table` needs room for 7,680 numbers (refusal 10); its rest stays.
+ * and end, five numbers are written at the start of `table`: line, end, the summed weight of its lines, the customers that it
+ * cuts off, and these two multiplied. `table` needs room for 7,680 numbers (refusal 10); its rest stays.
  */
 bool jubaxendi_segments(const uint8_t *file, size_t file_length, uint64_t *table, size_t table_length, uint64_t *answer, size_t answer_length);
 

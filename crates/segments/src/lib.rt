@@ -1,5 +1,5 @@
-// The segment table: for each breaker end its line and end, the weights of the lines it trips for, the customers behind it, and the
-// product of the two. An end has a code: 1 and 2 are the ends of line 1, 3 and 4 those of line 2.
+// The segment table groups the lines by the breaker that trips for them: an entry a breaker, with the weight of its lines, the
+// customers that it cuts off and their outage amount. An end has a code: 1 and 2 are the ends of line 1, 3 and 4 those of line 2.
 ghost use mathlib.Core.Path.{_≡_};
 ghost use mathlib.Core.List.{_∷_, _++_};
 ghost use Prim.Native.Nat.{ℕ, _+_, _*_, _-_, _^_, _≤_, _<_};

@@ -275,8 +275,7 @@ impl Network {
         trips
     }
 
-    /// The segment table: for each breaker end its line and end, the weights of the lines it trips for, the customers behind it and
-    /// their product.
+    /// The segment table: an entry for each breaker end, by line and end.
     pub fn segments(&self) -> Vec<[u64; 5]> {
         let mut ends: Vec<End> = (0..2 * self.file.lines.len()).filter(|&e| self.is_breaker(e, &[])).collect();
         match self.wrong {
@@ -293,7 +292,7 @@ impl Network {
         table
     }
 
-    /// The entry of a breaker end: the lines are looked through for those that it trips for.
+    /// The entry of a breaker end, five numbers: all lines are looked through for those that it trips for.
     fn segment(&self, end: End) -> [u64; 5] {
         let counts = |line: usize| match self.wrong {
             Some(SegmentsAllBehind) => self.line_paths[line].contains(&end),
