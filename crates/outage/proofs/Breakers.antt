@@ -1,4 +1,4 @@
--- The breakers that trip for the lines: where they are, the customers behind them and the weights that they trip for.
+-- The breakers that trip for the lines: their codes, and the impacts from the customers behind their lines.
 use Prim.Native.Nat.{ℕ, _+_, _*_, _-_, _/_, _≤_, _<_}
 use mathlib.Core.Path.{_≡_, refl, sym, ap, _∙_}
 use mathlib.Core.Bool.{Bool, true, false, true≢false}
