@@ -1,38 +1,13 @@
--- Sums and largest values over the numbers from one up to another, without it.
-use Prim.Native.Nat.{ℕ, suc, _+_, _*_, _-_, _≤_, _<_, max}
+-- Largest values over the numbers from one up to another, without it.
+use Prim.Native.Nat.{ℕ, _+_, _-_, _≤_, _<_, max}
 use mathlib.Core.Path.{_≡_, refl, ap}
 use mathlib.Core.Bool.{Bool}
 use mathlib.Core.List.{List, [], _∷_, List·Memᴰ, List·Memᴰ·head, List·Memᴰ·tail}
 use native.Mathlib.Omega.{arith}
-use lib.ListN.{length}
 use Rattle.model.specs.Lists.{numbers}
-use Rattle.graphs.specs.Sum.{on, sumOver}
+use Rattle.graphs.specs.Sum.{on}
+use Rattle.theory.specs.Gathering.{numbers-first, numbers-none}
 use Rattle.places.specs.Worst.{most}
-
-pub numbers-first : (k end : ℕ) → k < end → numbers k (end - k) ≡ k ∷ numbers (k + 1) (end - (k + 1))
-unfolding numbers
-numbers-first k end h = ap (numbers k) {x = end - k} {y = suc (end - (k + 1))} (omega arith)
-
-pub numbers-none : (k end : ℕ) → end ≤ k → numbers k (end - k) ≡ []
-unfolding numbers
-numbers-none k end h = ap (numbers k) {x = end - k} {y = 0} (omega arith)
-
-abbrev pub sumFrom : (ℕ → ℕ) → ℕ → ℕ → ℕ
-sumFrom f k end = sumOver f (numbers k (end - k))
-
-module _ (f : ℕ → ℕ) where
-  pub sum-first : (k end : ℕ) → k < end → sumFrom f k end ≡ f k + sumFrom f (k + 1) end
-  sum-first k end h = ap (sumOver f) (numbers-first k end h)
-
-  pub sum-none : (k end : ℕ) → end ≤ k → sumFrom f k end ≡ 0
-  sum-none k end h = ap (sumOver f) (numbers-none k end h)
-
-  pub sum-all : (n : ℕ) → sumFrom f 1 (n + 1) ≡ sumOver f (numbers 1 n)
-  sum-all n = ap (λ k. sumOver f (numbers 1 k)) {x = n + 1 - 1} {y = n} (omega arith)
-
-  pub sum-most : (most : ℕ) → ((k : ℕ) → f k ≤ most) → (ks : List ℕ) → sumOver f ks ≤ length ks * most
-  sum-most most h [] = omega arith
-  sum-most most h (k ∷ ks) = omega (arith, h k, sum-most most h ks)
 
 -- the largest value of those that pass a test
 abbrev pub mostFrom : (ℕ → Bool) → (ℕ → ℕ) → ℕ → ℕ → ℕ

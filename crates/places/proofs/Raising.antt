@@ -22,7 +22,7 @@ use Rattle.places.specs.Held.{placeOn, HoldsFirsts}
 use Rattle.places.specs.Own.{farRoute, farPlace}
 use Rattle.places.proofs.Numbers.{mostFrom, most-first, most-none, most-all}
 use Rattle.places.proofs.OnEnds.{on-most}
-use Rattle.places.proofs.Gathering.{zeros}
+use Rattle.theory.specs.Gathering.{zeros}
 use Rattle.places.proofs.FirstPlaces.{ownOf, own-worst}
 
 -- the largest value of all

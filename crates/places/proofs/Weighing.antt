@@ -17,7 +17,7 @@ use Rattle.places.specs.Sets.{route, weightAt}
 use Rattle.places.specs.Start.{start-weight}
 use Rattle.places.specs.Held.{HoldsRelations}
 use Rattle.places.specs.Own.{HoldsOwn, HoldsNears, underIn}
-use Rattle.places.proofs.Numbers.{sumFrom, sum-all, sum-first}
+use Rattle.theory.specs.Gathering.{sumFrom, sum-all, sum-first}
 use Rattle.places.proofs.Gathering.{weights-few}
 use Rattle.places.proofs.OnEnds.{place-in, in-place}
 use Rattle.places.proofs.Under.{under-is}

@@ -3,16 +3,16 @@ use Prim.Native.Nat.{ℕ, _+_, _*_, _≤_, _<_, max}
 use mathlib.Core.Path.{_≡_, refl, sym, ap, _∙_, subst, fun-ext}
 use mathlib.Core.Bool.{Bool, true, false, _||_, true≢false, or-false}
 use mathlib.Core.Logic.{_≢_, _↔_}
-use mathlib.Core.List.{List, [], _∷_, _++_, map, List·Memᴰ}
+use mathlib.Core.List.{List, [], _∷_, _++_, List·Memᴰ}
 use native.Mathlib.Omega.{arith}
 use lib.ListN.{length}
-use Rattle.model.specs.Lists.{any, sum, numbers, numbered}
+use Rattle.model.specs.Lists.{any, numbers, numbered}
 use Rattle.model.specs.Network.{Network, noLine, stateAt}
 use Rattle.model.specs.Paths.{Vertex, station, line, End, sameEnd, state, isOpen}
 use Rattle.model.specs.Rules.{breakersOn, seriesBroken}
 use Rattle.model.specs.Outage.{pathToHV, noEnd, customersBehind}
 use Rattle.model.specs.Sets.{withBreakers, setTotal}
-use Rattle.graphs.specs.Sum.{on, sumOver}
+use Rattle.graphs.specs.Sum.{on}
 use Rattle.graphs.specs.Tree.{countOf}
 use Rattle.savings.specs.Facts.{sameEnd-eq}
 use Rattle.savings.specs.First.{this}
@@ -23,17 +23,13 @@ use Rattle.theory.specs.Reading.{Read}
 use Rattle.theory.specs.Ends.{numbers-in}
 use Rattle.theory.specs.Radial.{Rules, In, listed-vertex}
 use Rattle.theory.specs.Above.{breakers-count, series-above}
+use Rattle.theory.specs.Gathering.{sum-over}
 use Rattle.theory.specs.Behind.{vertices, listed-in}
 use Rattle.theory.specs.With.{with-read, with-rules}
 use Rattle.places.specs.Ways.{has, with, Way, near, under, near-with}
 use Rattle.places.specs.Weights.{weight, total-with, weight-with}
 use Rattle.places.specs.Worst.{worst, series-with, worst-with}
 use Rattle.places.specs.Onward.{onward, way, way-onward, behind-end}
-
-sum-over : (f : ℕ → ℕ) (ls : List ℕ) → sum (map f ls) ≡ sumOver f ls
-unfolding sum
-sum-over f [] = refl
-sum-over f (l ∷ ls) = ap (λ n. f l + n) (sum-over f ls)
 
 module _ (N : Network) where
   -- the path and the weight of a line

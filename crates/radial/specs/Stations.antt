@@ -1,12 +1,12 @@
 -- What the loops over the stations' labels keep: the station's own numbers, a label renamed, the labels of HV stations marked.
-use Prim.Native.Nat.{ℕ, zero, suc, _+_, _≤_, _<_}
+use Prim.Native.Nat.{ℕ, _+_, _≤_, _<_}
 use mathlib.Core.Path.{_≡_, refl, sym, ap, _∙_, subst}
 use mathlib.Core.Bool.{Bool, true, false, not, true≢false}
 use mathlib.Core.Logic.{_≢_}
 use mathlib.Core.List.{List}
 use native.Mathlib.Decide.{ℕ-discrete, decLt}
 use native.Mathlib.Omega.{arith}
-use lib.ListN.{length, getD, set, replicate}
+use lib.ListN.{length, getD, set}
 use lib.Seq.{getD-set-same, getD-set-other}
 use Rattle.model.specs.Network.{Network}
 use Rattle.model.specs.Paths.{isHV}
@@ -44,11 +44,6 @@ module _ (x y i : ℕ) (before labels : List ℕ) (r : Renamed x y i before labe
       go : (k : ℕ) → k < i + 1 → Dec (k ≡ i) → getD (set labels i y) k 0 ≡ relabel x y (getD before k 0)
       go k b (yes e) = subst (λ n. getD (set labels i y) n 0 ≡ relabel x y (getD before n 0)) (sym e) (getD-set-same labels i y 0 l ∙ sym (relabel-same x y (getD before i 0) (sym here ∙ d)))
       go k b (no e) = getD-set-other labels i k y 0 e ∙ r .done k (omega arith)
-
-pub zeros : (n x : ℕ) → getD {A = ℕ} (replicate n 0) x 0 ≡ 0
-zeros zero x = refl
-zeros (suc n) zero = refl
-zeros (suc n) (suc x) = zeros n x
 
 -- of the stations 1 to s, the labels of the HV stations are marked by 1, and no others
 pub record Marked (N : Network) (labels : List ℕ) (s : ℕ) (marks : List ℕ) : Type 0 where

@@ -6,6 +6,7 @@ pub mod Radial
 pub mod Forest
 pub mod Above
 pub mod Labels
+pub mod Gathering
 pub mod Behind
 pub mod With
 pub mod Best

@@ -20,14 +20,10 @@ use Rattle.theory.specs.Reading.{Read}
 use Rattle.theory.specs.Radial.{Rules}
 use Rattle.theory.specs.Sizes.{Sized, sum-most, keep-length, numbers-length, customersBehind-size}
 use Rattle.theory.specs.Ends.{in-keep, in-flat, in-numbers, numbers-in, breaker-closed, closed-end}
+use Rattle.theory.specs.Gathering.{sum-over}
 use Rattle.theory.specs.Behind.{keep-once, ends-once, numbers-once, kept-sum}
 use Rattle.theory.specs.Forest.{firstOr-found, tree}
 use Rattle.theory.specs.Best.{Accepted}
-
-over : {A : Type 0} (f : A → ℕ) (xs : List A) → sum (map f xs) ≡ sumOver f xs
-unfolding sum
-over f [] = refl
-over f (x ∷ xs) = ap (λ n. f x + n) (over f xs)
 
 -- a product of a sum over what passes a test
 scaled : {A : Type 0} (c : ℕ) (test : A → Bool) (f : A → ℕ) (xs : List A) → sumOver (λ x. on (test x) (f x)) xs * c ≡ sumOver (λ x. on (test x) (f x * c)) xs
@@ -115,17 +111,17 @@ module _ (N : Network) (a : Accepted N) where
   -- taken breaker by breaker, the total is what it is line by line
   pub segments-total : sum (map (λ e. segmentAmount N e) (breakerEnds N)) ≡ total N
   unfolding segmentAmount total outageAmount impact
-  segments-total = over (λ e. segmentAmount N e) (breakerEnds N) ∙ grouped (λ e. customersBehind N e) ∙ sym (over (λ l. outageAmount N l) (lineNumbers N))
+  segments-total = sum-over (λ e. segmentAmount N e) (breakerEnds N) ∙ grouped (λ e. customersBehind N e) ∙ sym (sum-over (λ l. outageAmount N l) (lineNumbers N))
 
   -- the weights of the table sum to those of all lines
   pub segments-weights : sum (map (λ e. weightTripped N e) (breakerEnds N)) ≡ allWeights N
   unfolding allWeights
   segments-weights =
-      over (λ e. weightTripped N e) (breakerEnds N)
+      sum-over (λ e. weightTripped N e) (breakerEnds N)
       ∙ sum-ext (λ e. weightTripped N e) (λ e. weightTripped N e * 1) (breakerEnds N) (λ e _. omega arith)
       ∙ grouped (λ e. 1)
       ∙ sum-ext (λ l. weightOf N l * 1) (weightOf N) (lineNumbers N) (λ l _. omega arith)
-      ∙ sym (over (weightOf N) (lineNumbers N))
+      ∙ sym (sum-over (weightOf N) (lineNumbers N))
 
   -- both hold of the table at the start of any buffer
   pub by-breaker : (rest : List ℕ) → ByBreaker N (length (breakerEnds N)) (segmentTable N ++ rest)

@@ -1,13 +1,13 @@
 -- How the lists of closed ends grow, from the last code to the first.
-use Prim.Native.Nat.{ℕ, zero, suc, _*_, _-_, _≤_}
-use mathlib.Core.Path.{_≡_, refl, sym, ap, _∙_, subst}
+use Prim.Native.Nat.{ℕ, suc, _*_, _-_, _≤_}
+use mathlib.Core.Path.{_≡_, sym, ap, _∙_, subst}
 use mathlib.Core.Bool.{true, false}
 use mathlib.Core.Logic.{_≢_}
 use mathlib.Core.List.{List, _∷_}
 use native.Mathlib.Decide.{ℕ-discrete}
 use native.Mathlib.Omega.{arith}
 use lib.Dec.{eqb}
-use lib.ListN.{length, getD, set, replicate}
+use lib.ListN.{length, getD, set}
 use lib.Seq.{getD-set-same, getD-set-other}
 use borrow.Author.Tests.{eq-eqb, ne-eqb}
 use Rattle.model.specs.Lists.{keep}
@@ -24,11 +24,6 @@ chain-set {most} {nexts} c v a f (link {c = h} {es} p q g t) =
   where
     same : getD (set nexts (c - 1) v) (h - 1) 0 ≡ getD nexts (h - 1) 0
     same = getD-set-other nexts (c - 1) (h - 1) v 0 (omega (arith, f (h - 1) (omega arith)))
-
-pub zeros : (n k : ℕ) → _≡_ {A = ℕ} (getD (replicate n 0) k 0) 0
-zeros zero k = refl
-zeros (suc n) zero = refl
-zeros (suc n) (suc k) = zeros n k
 
 -- the closed ends at a station whose codes are above c
 abbrev atAbove : Network → ℕ → ℕ → List End

@@ -5,7 +5,8 @@ use native.Mathlib.Omega.{arith}
 use lib.ListN.{length, getD, replicate, length-set}
 use borrow.Author.Needs.{needs}
 use Rattle.buffer.specs.Buffer.{networkIn}
-use Rattle.radial.specs.Stations.{Marked, Apart, zeros, label-low, marked-start, marked-skip, marked-set, apart-start, apart-skip, apart-next, marked-joined, apart-joined}
+use Rattle.theory.specs.Gathering.{zeros}
+use Rattle.radial.specs.Stations.{Marked, Apart, label-low, marked-start, marked-skip, marked-set, apart-start, apart-skip, apart-next, marked-joined, apart-joined}
 use Rattle.buffer.specs.Fields.{station-count}
 use Rattle.radial.proofs.hv_joined.Statement.{statement}
 use Rattle.radial.proofs.hv_joined.Tie as tie

@@ -1,5 +1,5 @@
 use mathlib.Core.Path.{refl}
-use Rattle.tree.proofs.Linking.{zeros}
+use Rattle.theory.specs.Gathering.{zeros}
 use Rattle.segments.proofs.no_weights.Statement.{statement}
 use Rattle.segments.proofs.no_weights.Tie as tie
 

@@ -1,13 +1,12 @@
 use borrow.Author.Needs.{needs}
-use Prim.Native.Nat.{_+_, _-_, _≤_}
+use Prim.Native.Nat.{_-_, _≤_}
 use mathlib.Core.Path.{_≡_, subst}
 use native.Mathlib.Omega.{arith}
 use lib.ListN.{length, length-set}
-use Rattle.theory.specs.Sizes.{read-sized}
 use Rattle.buffer.specs.Buffer.{networkIn}
 use Rattle.outage.proofs.Calls.{read-fits}
 use Rattle.outage.proofs.Breakers.{trip-is, trip-in}
-use Rattle.segments.proofs.Weights.{Noted, noted-more, noted-most, noted-all}
+use Rattle.segments.proofs.Weights.{Noted, noted-more, noted-fits, noted-all}
 use Rattle.segments.proofs.weights_tripped.Statement.{statement}
 use Rattle.segments.proofs.weights_tripped.Tie as tie
 
@@ -48,7 +47,8 @@ add-weights c =
     let s = c .before .before .before .before .before .before .before .before in
     let h = c .before .before .before .before .loop in
     let N = networkIn (s .args .net .now) in
-    omega (arith, noted-most N (s .pre .0 .read) (h .weights) (h .i) (h .inv .4) (c .before .before .trip-code .result), read-sized N (s .pre .0 .read) .weight (h .i + 1), c .weight .ensures)
+    let t = trip-is N (s .pre .0 .read) (s .pre .0 .rules) (s .args .trips .now) (s .pre .1) (h .i) (omega arith) (c .before .before .trip-code .result) (omega arith) in
+    omega (arith, noted-fits N (s .pre .0 .read) (h .weights) (h .i) (c .before .before .trip-code .result) (omega arith) t (h .inv .4), c .weight .ensures)
 
 mul-weights-2 : tie.Need-mul-weights-2 Inv-loop μ-loop
 mul-weights-2 c =

@@ -1,5 +1,5 @@
 use mathlib.Core.Path.{refl}
-use Rattle.tree.proofs.Linking.{zeros}
+use Rattle.theory.specs.Gathering.{zeros}
 use Rattle.tree.proofs.clear.Statement.{statement}
 use Rattle.tree.proofs.clear.Tie as tie
 

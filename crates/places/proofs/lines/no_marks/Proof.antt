@@ -1,5 +1,5 @@
 use mathlib.Core.Path.{refl}
-use Rattle.tree.proofs.Linking.{zeros}
+use Rattle.theory.specs.Gathering.{zeros}
 use Rattle.places.proofs.lines.no_marks.Statement.{statement}
 use Rattle.places.proofs.lines.no_marks.Tie as tie
 

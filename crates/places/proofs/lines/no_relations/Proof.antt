@@ -1,5 +1,5 @@
 use mathlib.Core.Path.{refl}
-use Rattle.tree.proofs.Linking.{zeros}
+use Rattle.theory.specs.Gathering.{zeros}
 use Rattle.places.proofs.lines.no_relations.Statement.{statement}
 use Rattle.places.proofs.lines.no_relations.Tie as tie
 

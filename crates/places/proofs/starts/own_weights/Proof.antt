@@ -5,7 +5,8 @@ use lib.ListN.{length, getD, length-set}
 use borrow.Author.Needs.{needs}
 use Rattle.buffer.specs.Buffer.{networkIn}
 use Rattle.places.specs.Sets.{load}
-use Rattle.places.proofs.Gathering.{Gathered, stopOf, stop-few, gathered-none, gathered-more, gathered-fits, gathered-all}
+use Rattle.theory.specs.Gathering.{Gathered, gathered-none, gathered-more}
+use Rattle.places.proofs.Gathering.{stopOf, stop-few, gathered-fits, gathered-all}
 use Rattle.places.proofs.starts.own_weights.Statement.{statement}
 use Rattle.places.proofs.starts.own_weights.Tie as tie
 

@@ -11,7 +11,7 @@ use Rattle.places.specs.Sets.{weightAt}
 use Rattle.places.specs.Own.{underIn}
 use Rattle.places.proofs.Under.{counted, not-counted}
 use Rattle.places.proofs.Weighing.{share, weighed-more, weighed-all, weight-few}
-use Rattle.places.proofs.Numbers.{sumFrom, sum-first, sum-none}
+use Rattle.theory.specs.Gathering.{sumFrom, sum-first, sum-none}
 use Rattle.places.proofs.starts.start_weight.Statement.{statement}
 use Rattle.places.proofs.starts.start_weight.Tie as tie
 
