@@ -16,8 +16,8 @@ use Rattle.model.specs.declared.CheckAnswer.{CheckAnswer}
 use Rattle.model.specs.declared.ImpactAnswer.{ImpactAnswer}
 use Rattle.model.specs.declared.TotalAnswer.{TotalAnswer}
 use Rattle.buffer.specs.Buffer.{networkIn}
-use Rattle.engine.specs.Loading.{before, loaded}
-use Rattle.engine.proofs.Loads.{answered, same-answer}
+use Rattle.loading.specs.Loading.{before, loaded}
+use Rattle.loading.proofs.Loads.{answered, same-answer}
 
 -- what Impact answers of an accepted network, by whether the number is a line's
 by-test : (N : Network) (l : ℕ) {inside : Bool} → (leb 1 l && leb l (length (N .lines))) ≡ inside → impactOf l N ≡ (elim inside as (λ x. Answer ℕ) [ true ↦ given (impact N l) | false ↦ refuseNumber ])

@@ -12,8 +12,9 @@ use Rattle.model.specs.declared.SearchAnswer.{SearchAnswer}
 use Rattle.buffer.specs.Buffer.{networkIn}
 use Rattle.search.specs.Walking.{foundIn}
 use Rattle.search.specs.declared.Progress.{Progress}
-use Rattle.engine.specs.Loading.{before, loaded, fileFound, foundBy, AtMost16}
-use Rattle.engine.proofs.Loads.{answered, same-answer}
+use Rattle.loading.specs.Loading.{before, loaded}
+use Rattle.engine.specs.Found.{fileFound, foundBy, AtMost16}
+use Rattle.loading.proofs.Loads.{answered, same-answer}
 
 -- what was found, with its total as a number
 pub found-is : (p : Progress) (best : List ℕ) {total : ℕ} → total ≡ p .best .0 → _≡_ {A = Found} (record { members = take (p .count) best; best = total; visits = p .visits; spent = p .spent }) (foundIn p best)

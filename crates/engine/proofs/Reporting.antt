@@ -10,9 +10,9 @@ use Rattle.model.specs.Calls.{written, reported, reportAnswered, reportLeaves, 
 use Rattle.model.specs.declared.CheckAnswer.{CheckAnswer}
 use Rattle.model.specs.declared.ReportAnswer.{ReportAnswer}
 use Rattle.buffer.specs.Buffer.{networkIn}
-use Rattle.engine.specs.Loading.{before, loaded}
+use Rattle.loading.specs.Loading.{before, loaded}
 use Rattle.engine.proofs.Lending.{lent-short, lent-enough}
-use Rattle.engine.proofs.Loads.{answered, same-answer}
+use Rattle.loading.proofs.Loads.{answered, same-answer}
 
 module _ (file buffer : List ℕ) where
   -- the two claims of an answer and the buffer that it leaves

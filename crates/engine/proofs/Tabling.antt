@@ -13,9 +13,9 @@ use Rattle.model.specs.declared.SegmentsAnswer.{SegmentsAnswer}
 use Rattle.theory.specs.Segments.{by-breaker}
 use Rattle.theory.specs.Best.{accepted-is}
 use Rattle.buffer.specs.Buffer.{networkIn}
-use Rattle.engine.specs.Loading.{before, loaded}
+use Rattle.loading.specs.Loading.{before, loaded}
 use Rattle.engine.proofs.Lending.{lent-short, lent-enough}
-use Rattle.engine.proofs.Loads.{same-answer}
+use Rattle.loading.proofs.Loads.{same-answer}
 
 module _ (file buffer : List ℕ) where
   -- the three claims of an answer and the buffer that it leaves

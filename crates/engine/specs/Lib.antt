@@ -1,1 +1,1 @@
-pub mod Loading
+pub mod Found

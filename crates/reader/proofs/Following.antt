@@ -11,9 +11,9 @@ use Rattle.model.specs.Answer.{Answer, given, refused, _>>=_}
 use Rattle.model.specs.Format.{newline, Record, closed, unclosed, onFirstRecord, recordsOf}
 use Rattle.model.specs.Ranges.{rows}
 use Rattle.model.specs.Network.{Head, Line, Place, Kind, kindP, readRecord, placeOf, wellPlaced, readPlaces}
-use Rattle.reader.specs.Parts.{letters, kindAt, nextRecord}
-use Rattle.reader.proofs.Next.{no-records}
-use Rattle.reader.proofs.Several.{in-turn}
+use Rattle.records.specs.Kinds.{letters, kindAt, nextRecord}
+use Rattle.records.proofs.Next.{no-records}
+use Rattle.records.proofs.Several.{in-turn}
 
 -- ── there is a record ──
 some-first : (b : ℕ) (rs : List Record) → length (onFirstRecord b rs) ≡ 0 → ⊥

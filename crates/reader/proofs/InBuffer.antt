@@ -11,11 +11,11 @@ use Rattle.model.specs.Format.{recordsOf}
 use Rattle.model.specs.Network.{Place, Network, value, headOf, placeOf, noPlace, wellPlaced, readPlaces}
 use Rattle.buffer.specs.Buffer.{recordsIn, networkIn}
 use Rattle.reader.specs.Buffer.{stationsIn, linesIn, withPlaces}
-use Rattle.reader.specs.Parts.{kindAt, nextRecord}
-use Rattle.reader.proofs.Buffers.{put-record}
+use Rattle.records.specs.Kinds.{kindAt, nextRecord}
+use Rattle.records.proofs.Buffers.{put-record}
 use Rattle.reader.proofs.Kept.{network, value-kept, parts-kept, put-behind, counted}
-use Rattle.reader.proofs.Next.{next-in-range}
-use Rattle.reader.proofs.Ranged.{place-bounds}
+use Rattle.records.proofs.Next.{next-in-range}
+use Rattle.records.proofs.Ranged.{place-bounds}
 use Rattle.reader.proofs.Placed.{not-65th}
 use Rattle.reader.proofs.Following as following
 

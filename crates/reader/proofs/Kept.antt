@@ -9,7 +9,7 @@ use borrow.Rule.Slice.PartMut.{putMid, postOf, take-put}
 use Rattle.model.specs.Network.{Head, Station, Line, Place, Network, value, headOf, stationOf, lineOf, placeOf}
 use Rattle.buffer.specs.Buffer.{recordsIn, networkIn}
 use Rattle.reader.specs.Buffer.{stationsIn, linesIn}
-use Rattle.reader.proofs.Buffers.{front}
+use Rattle.records.proofs.Buffers.{front}
 
 -- the network of these parts
 unfoldable pub network : Head → List Station → List Line → List Place → Network

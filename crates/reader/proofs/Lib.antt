@@ -1,11 +1,3 @@
-pub mod Ends
-pub mod Digits
-pub mod Fields
-pub mod Ranged
-pub mod Next
-pub mod Buffers
-pub mod Several
-pub mod Steps
 pub mod Placed
 pub mod Kept
 pub mod Following

@@ -12,7 +12,7 @@ use Rattle.model.specs.Lists.{numbered}
 use Rattle.model.specs.Network.{Line, Place, value, headOf, lineOf, noLine, stateAt, comesAfter, wellPlaced}
 use Rattle.buffer.specs.Buffer.{recordsIn}
 use Rattle.reader.specs.Buffer.{linesIn}
-use Rattle.reader.proofs.Buffers.{many-records, record-at}
+use Rattle.records.proofs.Buffers.{many-records, record-at}
 
 -- ── order ──
 module _ (a b c d : ℕ) where

@@ -13,12 +13,12 @@ use Rattle.model.specs.Ranges.{rows}
 use Rattle.model.specs.Network.{Head, Station, Line, Network, Kind, value, kindN, kindS, kindL, headOf, stationOf, lineOf, noPlace, readRecord, readRecords, readPlaces, readAfterHead, readFile, networkOf}
 use Rattle.buffer.specs.Buffer.{recordsIn}
 use Rattle.reader.specs.Buffer.{stationsIn, linesIn, withPlaces}
-use Rattle.reader.specs.Parts.{letters, kindAt, nextRecord}
-use Rattle.reader.proofs.Buffers.{part-records}
+use Rattle.records.specs.Kinds.{letters, kindAt, nextRecord}
+use Rattle.records.proofs.Buffers.{part-records}
 use Rattle.reader.proofs.Kept.{network, head-kept, value-kept, stations-kept, put-before}
-use Rattle.reader.proofs.Next.{next-in-range}
-use Rattle.reader.proofs.Ranged.{head-bounds}
-use Rattle.reader.proofs.Several.{in-turn}
+use Rattle.records.proofs.Next.{next-in-range}
+use Rattle.records.proofs.Ranged.{head-bounds}
+use Rattle.records.proofs.Several.{in-turn}
 
 kind-N : kindN ≡ kindAt 0
 unfolding kindN kindAt letters rows

@@ -15,118 +15,85 @@ use Rattle.model.specs.Sets.{placeNumbers, allowed, setTotal, saving}
 use Rattle.model.specs.Walk.{Found, largest, hopeless, extend}
 use Rattle.walks.specs.Runs.{extend-spent, extend-hopeless, extend-allowed, extend-barred, on-true, on-false}
 use Rattle.theory.specs.Sizes.{numbers-length}
-use Rattle.search.specs.Walking.{placesFrom, extended, mostSaved, tried, HoldsBounds, Barren}
+use Rattle.bounds.specs.Bounds.{placesFrom, mostSaved, HoldsBounds}
+use Rattle.search.specs.Walking.{extended, tried, Barren}
 
-drop-numbers : (f : ℕ → ℕ) (k from count : ℕ) → drop k (map f (numbers from count)) ≡ map f (numbers (from + k) (count - k))
-unfolding numbers
-drop-numbers f zero from count = λ i. map f (numbers (at i) (less i))
-  where
-    at : from ≡ from + 0
-    at = omega arith
+module _ (N : Network) (S : List ℕ) where
+  -- the defined walk over a list of places
+  abbrev walked : ℕ → List ℕ → Found → Found
+  walked r later f = extend (N .head .visits) (λ T. setTotal N T) (λ T. allowed N T) (λ p. saving N p) r S later f
 
-    less : count ≡ count - 0
-    less = omega arith
-drop-numbers f (suc k) from zero = ap (λ n. map f (numbers (from + suc k) n)) {x = 0} {y = 0 - suc k} (omega arith)
-drop-numbers f (suc k) from (suc count) = drop-numbers f k (from + 1) count ∙ (λ i. map f (numbers (at i) (less i)))
-  where
-    at : from + 1 + k ≡ from + suc k
-    at = omega arith
-
-    less : count - k ≡ suc count - suc k
-    less = omega arith
-
-module _ (N : Network) where
-  -- the bound of the table
-  pub bound-is : (bounds : List ℕ) → HoldsBounds N bounds → (r place : ℕ) → r ≤ 16 → 1 ≤ place → place ≤ length (N .places) → getD bounds (r * 65 + place - 1) 0 ≡ mostSaved N r place
-  unfolding placeNumbers
-  bound-is bounds t r place f l h =
-      ap (λ n. getD bounds n 0) {x = r * 65 + place - 1} {y = r * 65 + (place - 1)} (omega arith)
-      ∙ t r (place - 1) f (omega arith) (omega (arith, length-map (numbers 1 (length (N .places))) (λ p. saving N p), numbers-length 1 (length (N .places))))
-      ∙ ap (largest r) (drop-numbers (λ p. saving N p) (place - 1) 1 (length (N .places)))
-      ∙ (λ i. largest r (map (λ p. saving N p) (numbers (m i) (n i))))
+  -- no more places to add, or none left
+  pub none-more : (r place : ℕ) (f : Found) → r ≡ 0 → extended N r S place f ≡ f
+  unfolding extend
+  none-more r place f e = ap (λ k. walked k (placesFrom N place) f) e ∙ go (placesFrom N place)
     where
-      m : 1 + (place - 1) ≡ place
-      m = omega arith
+      go : (later : List ℕ) → walked 0 later f ≡ f
+      go [] = refl
+      go (q ∷ later) = refl
 
-      n : length (N .places) - (place - 1) ≡ length (N .places) + 1 - place
-      n = omega arith
+  pub none-later : (r place : ℕ) (f : Found) → length (N .places) < place → extended N r S place f ≡ f
+  unfolding numbers extend
+  none-later r place f h = ap (λ n. walked r (numbers place n) f) {x = length (N .places) + 1 - place} {y = 0} (omega arith)
 
-  module _ (S : List ℕ) where
-    -- the defined walk over a list of places
-    abbrev walked : ℕ → List ℕ → Found → Found
-    walked r later f = extend (N .head .visits) (λ T. setTotal N T) (λ T. allowed N T) (λ p. saving N p) r S later f
+  module _ (r place : ℕ) (h : place ≤ length (N .places)) (l : r ≡ 0 → ⊥) (f : Found) where
+    abbrev bound : ℕ
+    bound = mostSaved N r place
 
-    -- no more places to add, or none left
-    pub none-more : (r place : ℕ) (f : Found) → r ≡ 0 → extended N r S place f ≡ f
-    unfolding extend
-    none-more r place f e = ap (λ k. walked k (placesFrom N place) f) e ∙ go (placesFrom N place)
+    -- the place and the later ones
+    split : extended N r S place f ≡ walked (suc (r - 1)) (place ∷ placesFrom N (place + 1)) f
+    unfolding numbers
+    split = λ i. walked (m i) (numbers place (n i)) f
       where
-        go : (later : List ℕ) → walked 0 later f ≡ f
-        go [] = refl
-        go (q ∷ later) = refl
+        m : r ≡ suc (r - 1)
+        m = omega arith
 
-    pub none-later : (r place : ℕ) (f : Found) → length (N .places) < place → extended N r S place f ≡ f
-    unfolding numbers extend
-    none-later r place f h = ap (λ n. walked r (numbers place n) f) {x = length (N .places) + 1 - place} {y = 0} (omega arith)
+        n : length (N .places) + 1 - place ≡ suc (length (N .places) + 1 - (place + 1))
+        n = omega arith
 
-    module _ (r place : ℕ) (h : place ≤ length (N .places)) (l : r ≡ 0 → ⊥) (f : Found) where
-      abbrev bound : ℕ
-      bound = mostSaved N r place
-
-      -- the place and the later ones
-      split : extended N r S place f ≡ walked (suc (r - 1)) (place ∷ placesFrom N (place + 1)) f
-      unfolding numbers
-      split = λ i. walked (m i) (numbers place (n i)) f
-        where
-          m : r ≡ suc (r - 1)
-          m = omega arith
-
-          n : length (N .places) + 1 - place ≡ suc (length (N .places) + 1 - (place + 1))
-          n = omega arith
-
-      hopeless-is : hopeless (N .head .visits) (λ T. setTotal N T) (λ T. allowed N T) (λ p. saving N p) (suc (r - 1)) S (place ∷ placesFrom N (place + 1)) f ≡ leb (f .best + bound) (setTotal N S)
-      unfolding hopeless numbers
-      hopeless-is = λ i. leb (f .best + largest (sym m i) (map (λ p. saving N p) (numbers place (sym n i)))) (setTotal N S)
-        where
-          m : r ≡ suc (r - 1)
-          m = omega arith
-
-          n : length (N .places) + 1 - place ≡ suc (length (N .places) + 1 - (place + 1))
-          n = omega arith
-
-      pub stop-spent : f .spent ≡ true → extended N r S place f ≡ f
-      stop-spent e = split ∙ extend-spent (N .head .visits) (λ T. setTotal N T) (λ T. allowed N T) (λ p. saving N p) (r - 1) S place (placesFrom N (place + 1)) f e
-
-      pub stop-bound : f .best + bound ≤ setTotal N S → extended N r S place f ≡ f
-      stop-bound e = go (f .spent) refl
-        where
-          go : (b : Bool) → f .spent ≡ b → extended N r S place f ≡ f
-          go true u = stop-spent u
-          go false u =
-              split ∙ extend-hopeless (N .head .visits) (λ T. setTotal N T) (λ T. allowed N T) (λ p. saving N p) (r - 1) S place (placesFrom N (place + 1)) f u
-              (hopeless-is ∙ le-leb (f .best + bound) (setTotal N S) e)
-
-      -- the place is tried, and the walk goes on with the next
-      pub go-on : f .spent ≡ false → setTotal N S < f .best + bound → extended N r S place f ≡ extended N r S (place + 1) (tried N (r - 1) S place f)
-      unfolding tried
-      go-on u e = split ∙ go (allowed N (S ++ (place ∷ []))) refl ∙ ap (λ k. walked k (placesFrom N (place + 1)) (tried N (r - 1) S place f)) {x = suc (r - 1)} {y = r} (omega arith)
-        where
-          hope : hopeless (N .head .visits) (λ T. setTotal N T) (λ T. allowed N T) (λ p. saving N p) (suc (r - 1)) S (place ∷ placesFrom N (place + 1)) f ≡ false
-          hope = hopeless-is ∙ lt-leb (f .best + bound) (setTotal N S) e
-
-          go : (b : Bool) → allowed N (S ++ (place ∷ [])) ≡ b → walked (suc (r - 1)) (place ∷ placesFrom N (place + 1)) f ≡ walked (suc (r - 1)) (placesFrom N (place + 1)) (tried N (r - 1) S place f)
-          go true b =
-              extend-allowed (N .head .visits) (λ T. setTotal N T) (λ T. allowed N T) (λ p. saving N p) (r - 1) S place (placesFrom N (place + 1)) f u hope b
-              ∙ ap (walked (suc (r - 1)) (placesFrom N (place + 1))) (sym (on-true _ _ b))
-          go false b =
-              extend-barred (N .head .visits) (λ T. setTotal N T) (λ T. allowed N T) (λ p. saving N p) (r - 1) S place (placesFrom N (place + 1)) f u hope b
-              ∙ ap (walked (suc (r - 1)) (placesFrom N (place + 1))) (sym (on-false _ _ b))
-
-    -- a set with nothing to gain
-    pub barren : (r place : ℕ) (f : Found) → Barren N (f .spent) (f .best) (setTotal N S) place r → extended N r S place f ≡ f
-    barren r place f x = go (decLt (length (N .places)) place) (decLt 0 r)
+    hopeless-is : hopeless (N .head .visits) (λ T. setTotal N T) (λ T. allowed N T) (λ p. saving N p) (suc (r - 1)) S (place ∷ placesFrom N (place + 1)) f ≡ leb (f .best + bound) (setTotal N S)
+    unfolding hopeless numbers
+    hopeless-is = λ i. leb (f .best + largest (sym m i) (map (λ p. saving N p) (numbers place (sym n i)))) (setTotal N S)
       where
-        go : Dec (length (N .places) < place) → Dec (0 < r) → extended N r S place f ≡ f
-        go (yes h) _ = none-later r place f h
-        go (no h) (no l) = none-more r place f (omega arith)
-        go (no h) (yes l) = ⊎-elim (λ e. absurd (omega arith)) (λ y. ⊎-elim (λ e. absurd (h e)) (λ z. ⊎-elim (stop-spent r place (omega arith) (λ e. omega arith) f) (stop-bound r place (omega arith) (λ e. omega arith) f) z) y) x
+        m : r ≡ suc (r - 1)
+        m = omega arith
+
+        n : length (N .places) + 1 - place ≡ suc (length (N .places) + 1 - (place + 1))
+        n = omega arith
+
+    pub stop-spent : f .spent ≡ true → extended N r S place f ≡ f
+    stop-spent e = split ∙ extend-spent (N .head .visits) (λ T. setTotal N T) (λ T. allowed N T) (λ p. saving N p) (r - 1) S place (placesFrom N (place + 1)) f e
+
+    pub stop-bound : f .best + bound ≤ setTotal N S → extended N r S place f ≡ f
+    stop-bound e = go (f .spent) refl
+      where
+        go : (b : Bool) → f .spent ≡ b → extended N r S place f ≡ f
+        go true u = stop-spent u
+        go false u =
+            split ∙ extend-hopeless (N .head .visits) (λ T. setTotal N T) (λ T. allowed N T) (λ p. saving N p) (r - 1) S place (placesFrom N (place + 1)) f u
+            (hopeless-is ∙ le-leb (f .best + bound) (setTotal N S) e)
+
+    -- the place is tried, and the walk goes on with the next
+    pub go-on : f .spent ≡ false → setTotal N S < f .best + bound → extended N r S place f ≡ extended N r S (place + 1) (tried N (r - 1) S place f)
+    unfolding tried
+    go-on u e = split ∙ go (allowed N (S ++ (place ∷ []))) refl ∙ ap (λ k. walked k (placesFrom N (place + 1)) (tried N (r - 1) S place f)) {x = suc (r - 1)} {y = r} (omega arith)
+      where
+        hope : hopeless (N .head .visits) (λ T. setTotal N T) (λ T. allowed N T) (λ p. saving N p) (suc (r - 1)) S (place ∷ placesFrom N (place + 1)) f ≡ false
+        hope = hopeless-is ∙ lt-leb (f .best + bound) (setTotal N S) e
+
+        go : (b : Bool) → allowed N (S ++ (place ∷ [])) ≡ b → walked (suc (r - 1)) (place ∷ placesFrom N (place + 1)) f ≡ walked (suc (r - 1)) (placesFrom N (place + 1)) (tried N (r - 1) S place f)
+        go true b =
+            extend-allowed (N .head .visits) (λ T. setTotal N T) (λ T. allowed N T) (λ p. saving N p) (r - 1) S place (placesFrom N (place + 1)) f u hope b
+            ∙ ap (walked (suc (r - 1)) (placesFrom N (place + 1))) (sym (on-true _ _ b))
+        go false b =
+            extend-barred (N .head .visits) (λ T. setTotal N T) (λ T. allowed N T) (λ p. saving N p) (r - 1) S place (placesFrom N (place + 1)) f u hope b
+            ∙ ap (walked (suc (r - 1)) (placesFrom N (place + 1))) (sym (on-false _ _ b))
+
+  -- a set with nothing to gain
+  pub barren : (r place : ℕ) (f : Found) → Barren N (f .spent) (f .best) (setTotal N S) place r → extended N r S place f ≡ f
+  barren r place f x = go (decLt (length (N .places)) place) (decLt 0 r)
+    where
+      go : Dec (length (N .places) < place) → Dec (0 < r) → extended N r S place f ≡ f
+      go (yes h) _ = none-later r place f h
+      go (no h) (no l) = none-more r place f (omega arith)
+      go (no h) (yes l) = ⊎-elim (λ e. absurd (omega arith)) (λ y. ⊎-elim (λ e. absurd (h e)) (λ z. ⊎-elim (stop-spent r place (omega arith) (λ e. omega arith) f) (stop-bound r place (omega arith) (λ e. omega arith) f) z) y) x

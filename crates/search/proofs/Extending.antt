@@ -13,16 +13,16 @@ use Rattle.model.specs.Sets.{withBreakers, allowed, setTotal}
 use Rattle.model.specs.Walk.{Found}
 use Rattle.walks.specs.Runs.{on-true}
 use Rattle.theory.specs.Series.{series-rule, allowed-means}
-use Rattle.places.specs.Held.{Level}
-use Rattle.places.specs.Lists.{many, Row, SameUpTo}
-use Rattle.search.specs.Changes.{Changed, Undone}
-use Rattle.search.specs.Chosen.{Before, Chosen, Levelled, Entering, Entered}
+use Rattle.starts.specs.Level.{Level}
+use Rattle.relations.specs.Lists.{many, Row, SameUpTo}
+use Rattle.prospects.specs.Changes.{Changed, Undone}
+use Rattle.prospects.specs.Chosen.{Before, Chosen, Levelled, Entering, Entered}
 use Rattle.search.specs.Walking.{foundIn, visited, extended, tried, Counted, Standing, Trying, Next, Barren, Promising, Seeking, Sought, Extending, Left}
 use Rattle.search.specs.declared.Progress.{Progress}
 use Rattle.search.specs.declared.Current.{Current}
-use Rattle.search.proofs.OneMore.{before-later}
-use Rattle.search.proofs.Undoing.{changed-kept}
-use Rattle.search.proofs.Entering.{row-wide}
+use Rattle.prospects.proofs.OneMore.{before-later}
+use Rattle.prospects.proofs.Undoing.{changed-kept}
+use Rattle.prospects.proofs.Entering.{row-wide}
 use Rattle.search.proofs.Bounding.{go-on, barren}
 
 -- what is the same of more numbers is the same of fewer

@@ -1,16 +1,7 @@
 pub mod Heads
-pub mod Inserting
-pub mod Columns
 pub mod Copying
 pub mod Visiting
-pub mod Nearby
-pub mod OneMore
-pub mod Levels
-pub mod Falling
-pub mod Undoing
-pub mod Entering
 pub mod Trying
-pub mod Saving
 pub mod Bounding
 pub mod Seeking
 pub mod Extending

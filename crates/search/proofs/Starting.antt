@@ -14,7 +14,7 @@ use Rattle.amounts.specs.declared.Total.{Total}
 use Rattle.theory.specs.Sizes.{read-sized, setTotal-size}
 use Rattle.search.specs.Walking.{foundIn, visited, extended, Counted, Extending, Starting}
 use Rattle.search.specs.declared.Progress.{Progress}
-use Rattle.search.proofs.Saving.{chosen-none}
+use Rattle.prospects.proofs.Saving.{chosen-none}
 
 module _ {N : Network} {relations ends lists sums bounds level saved set₀ best : List ℕ} (t : Total) (x : Starting N relations ends lists sums bounds level saved set₀ best (t .0)) where
   abbrev first : Progress

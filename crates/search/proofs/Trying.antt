@@ -16,13 +16,13 @@ use Rattle.savings.specs.Allowed.{sum-append}
 use Rattle.savings.specs.Breakers.{endAt}
 use Rattle.theory.specs.Reading.{Read, PlaceFits}
 use Rattle.theory.specs.Radial.{numbered-in}
-use Rattle.places.specs.Sets.{worstAt, set-series}
-use Rattle.search.specs.Chosen.{Later}
+use Rattle.sets.specs.Sets.{worstAt, set-series}
+use Rattle.prospects.specs.Chosen.{Later}
 use Rattle.search.specs.Walking.{Trying}
 use Rattle.search.specs.declared.Current.{Current}
-use Rattle.search.proofs.Nearby.{end-closed}
-use Rattle.search.proofs.Levels.{chosen-valid, later-of}
-use Rattle.search.proofs.Falling.{free}
+use Rattle.prospects.proofs.Nearby.{end-closed}
+use Rattle.prospects.proofs.Levels.{chosen-valid, later-of}
+use Rattle.prospects.proofs.Falling.{free}
 
 pub place-fits : (N : Network) → Read N → (p : ℕ) → 1 ≤ p → p ≤ length (N .places) → PlaceFits (length (N .lines)) (placeAt N p)
 unfolding placeAt

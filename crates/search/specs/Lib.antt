@@ -1,4 +1,1 @@
-pub mod Changes
-pub mod Chosen
-pub mod Bounds
 pub mod Walking

@@ -1,20 +1,21 @@
 -- The walk over sets of places: what it has found, what it reads, and where it stands.
-use Prim.Native.Nat.{ℕ, _+_, _*_, _-_, _≤_, _<_}
+use Prim.Native.Nat.{ℕ, _+_, _*_, _≤_, _<_}
 use mathlib.Core.Path.{_≡_}
 use mathlib.Core.Bool.{Bool, true, false}
 use mathlib.Core.Logic.{_⊎_}
 use mathlib.Core.List.{List, [], _∷_, _++_, map}
 use lib.ListN.{length, take}
-use Rattle.model.specs.Lists.{sum, numbers}
+use Rattle.model.specs.Lists.{sum}
 use Rattle.model.specs.Network.{Network}
 use Rattle.model.specs.Outage.{total}
-use Rattle.model.specs.Sets.{placeNumbers, placeAt, allowed, setTotal, saving}
-use Rattle.model.specs.Walk.{Found, largest, visit, extend}
+use Rattle.model.specs.Sets.{placeAt, allowed, setTotal, saving}
+use Rattle.model.specs.Walk.{Found, visit, extend}
 use Rattle.outage.specs.Held.{HoldsCustomers}
-use Rattle.places.specs.Held.{HoldsEnds, Level}
-use Rattle.places.specs.Lists.{HoldsLists, SameUpTo}
-use Rattle.search.specs.Bounds.{Bounds}
-use Rattle.search.specs.Chosen.{Chosen, Levelled, Tables}
+use Rattle.paths.specs.Held.{HoldsEnds}
+use Rattle.starts.specs.Level.{Level}
+use Rattle.relations.specs.Lists.{HoldsLists, SameUpTo}
+use Rattle.bounds.specs.Bounds.{placesFrom, mostSaved, HoldsBounds}
+use Rattle.prospects.specs.Chosen.{Chosen, Levelled, Tables}
 use Rattle.search.specs.declared.Progress.{Progress}
 use Rattle.search.specs.declared.Current.{Current}
 
@@ -26,16 +27,8 @@ foundIn p best = record { members = take (p .count) best; best = p .best .0; vis
 abbrev pub visited : Network → List ℕ → Found → Found
 visited N S f = visit (N .head .visits) (λ T. setTotal N T) (λ T. allowed N T) (λ p. saving N p) S f
 
--- the places from one on
-abbrev pub placesFrom : Network → ℕ → List ℕ
-placesFrom N from = numbers from (length (N .places) + 1 - from)
-
 abbrev pub extended : Network → ℕ → List ℕ → ℕ → Found → Found
 extended N left S from f = extend (N .head .visits) (λ T. setTotal N T) (λ T. allowed N T) (λ p. saving N p) left S (placesFrom N from) f
-
--- the sum of the largest savings of the places from one on
-abbrev pub mostSaved : Network → ℕ → ℕ → ℕ
-mostSaved N left from = largest left (map (λ p. saving N p) (placesFrom N from))
 
 -- the set with one more place is visited and extended, if it is allowed
 unfoldable pub tried : Network → ℕ → List ℕ → ℕ → Found → Found
@@ -49,10 +42,6 @@ pub record Counted (N : Network) (p : Progress) : Type 0 where
   pub count : p .count ≤ 16
   pub visits : p .visits ≤ N .head .visits
   pub limit : N .head .visits ≤ 1000000000
-
--- the table of the bounds is that of the file's savings
-abbrev pub HoldsBounds : Network → List ℕ → Type 0
-HoldsBounds N bounds = Bounds (map (λ p. saving N p) (placeNumbers N)) 0 bounds
 
 -- the set that the walk stands at
 pub record Standing (N : Network) (relations level set : List ℕ) (at : Current) (by : ℕ) : Type 0 where

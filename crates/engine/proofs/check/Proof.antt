@@ -1,14 +1,14 @@
-use Rattle.engine.proofs.Loads.{check-says}
+use Rattle.loading.proofs.Loads.{check-says}
 use borrow.Author.Needs.{needs}
 use Rattle.engine.proofs.check.Statement.{statement}
 use Rattle.engine.proofs.check.Tie as tie
 use Rattle.engine.proofs.check.Reads as reads
 use Rattle.engine.proofs.check.Lts as lts
-use Rattle.engine.proofs.stations_space.Reads as stations-space-reads
-use Rattle.engine.proofs.lines_space.Reads as lines-space-reads
-use Rattle.engine.proofs.load.Reads as load-reads
-use Rattle.engine.proofs.net_space.Reads as net-space-reads
-use Rattle.engine.proofs.nexts_space.Reads as nexts-space-reads
+use Rattle.loading.proofs.stations_space.Reads as stations-space-reads
+use Rattle.loading.proofs.lines_space.Reads as lines-space-reads
+use Rattle.loading.proofs.load.Reads as load-reads
+use Rattle.loading.proofs.net_space.Reads as net-space-reads
+use Rattle.loading.proofs.nexts_space.Reads as nexts-space-reads
 
 net-space-requires : tie.Need-net-space-requires
 net-space-requires c κs = search needs

@@ -5,16 +5,16 @@ use mathlib.Core.Logic.{_⊎_, inl, inr, ⊎-elim}
 use Rattle.buffer.specs.Buffer.{networkIn}
 use borrow.Author.Tests.{leb-true, leb-false}
 use borrow.Author.Needs.{needs}
-use Rattle.engine.proofs.Loads.{accepted-holds}
+use Rattle.loading.proofs.Loads.{accepted-holds}
 use Rattle.engine.proofs.Answers.{impact-refused, impact-given, impact-none}
 use Rattle.engine.proofs.impact.Statement.{statement}
 use Rattle.engine.proofs.impact.Tie as tie
 use Rattle.engine.proofs.impact.Reads as reads
 use Rattle.engine.proofs.impact.Lts as lts
 use Rattle.buffer.proofs.lines.Reads as lines-reads
-use Rattle.engine.proofs.lines_space.Reads as lines-space-reads
-use Rattle.engine.proofs.load_impacts.Reads as load-impacts-reads
-use Rattle.engine.proofs.net_space.Reads as net-space-reads
+use Rattle.loading.proofs.lines_space.Reads as lines-space-reads
+use Rattle.loading.proofs.load_impacts.Reads as load-impacts-reads
+use Rattle.loading.proofs.net_space.Reads as net-space-reads
 
 net-space-requires : tie.Need-net-space-requires
 net-space-requires c κs = search needs

@@ -1,17 +1,17 @@
 use borrow.Author.Needs.{needs}
-use Rattle.engine.proofs.Loads.{accepted-holds}
+use Rattle.loading.proofs.Loads.{accepted-holds}
 use Rattle.engine.proofs.Found.{found-refused, found-given}
 use Rattle.engine.proofs.load_search.Statement.{statement}
 use Rattle.engine.proofs.load_search.Tie as tie
 use Rattle.engine.proofs.load_search.Reads as reads
 use Rattle.engine.proofs.load_search.Lts as lts
 use Rattle.engine.proofs.found_answer.Reads as found-answer-reads
-use Rattle.engine.proofs.stations_space.Reads as stations-space-reads
-use Rattle.engine.proofs.lines_space.Reads as lines-space-reads
-use Rattle.engine.proofs.load.Reads as load-reads
-use Rattle.engine.proofs.net_space.Reads as net-space-reads
-use Rattle.engine.proofs.nexts_space.Reads as nexts-space-reads
-use Rattle.engine.proofs.search_network.Reads as search-network-reads
+use Rattle.loading.proofs.stations_space.Reads as stations-space-reads
+use Rattle.loading.proofs.lines_space.Reads as lines-space-reads
+use Rattle.loading.proofs.load.Reads as load-reads
+use Rattle.loading.proofs.net_space.Reads as net-space-reads
+use Rattle.loading.proofs.nexts_space.Reads as nexts-space-reads
+use Rattle.planning.proofs.search_network.Reads as search-network-reads
 
 net-space-requires : tie.Need-net-space-requires
 net-space-requires c κs = search needs

@@ -1,16 +1,16 @@
 use borrow.Author.Needs.{needs}
-use Rattle.engine.proofs.Loads.{accepted-holds}
+use Rattle.loading.proofs.Loads.{accepted-holds}
 use Rattle.engine.proofs.Reporting.{short-refused, file-refused, file-reported}
 use Rattle.engine.proofs.report.Statement.{statement}
 use Rattle.engine.proofs.report.Tie as tie
 use Rattle.engine.proofs.report.Reads as reads
 use Rattle.engine.proofs.report.Lts as lts
-use Rattle.engine.proofs.lines_space.Reads as lines-space-reads
-use Rattle.engine.proofs.load.Reads as load-reads
-use Rattle.engine.proofs.net_space.Reads as net-space-reads
-use Rattle.engine.proofs.nexts_space.Reads as nexts-space-reads
+use Rattle.loading.proofs.lines_space.Reads as lines-space-reads
+use Rattle.loading.proofs.load.Reads as load-reads
+use Rattle.loading.proofs.net_space.Reads as net-space-reads
+use Rattle.loading.proofs.nexts_space.Reads as nexts-space-reads
 use Rattle.engine.proofs.report_network.Reads as report-network-reads
-use Rattle.engine.proofs.stations_space.Reads as stations-space-reads
+use Rattle.loading.proofs.stations_space.Reads as stations-space-reads
 
 returns : tie.Need-returns
 returns c = short-refused (c .before .before .before .args .file .now) (c .before .before .before .args .text .now) (c .if1 .taken)

@@ -1,6 +1,6 @@
 use mathlib.Core.Path.{_≡_, sym, subst}
 use native.Mathlib.Omega.{arith}
-use Rattle.engine.specs.Loading.{fileFound, foundBy, AtMost16}
+use Rattle.engine.specs.Found.{fileFound, foundBy, AtMost16}
 use Rattle.engine.proofs.Calling.{Claims, short-refused, file-refused, file-finished, file-spent}
 use borrow.Author.Needs.{needs}
 use Rattle.engine.proofs.search.Statement.{statement}

@@ -6,7 +6,7 @@ use lib.Dec.{ltb}
 use lib.ListN.{length}
 use borrow.Author.Tests.{ltb-true, ltb-false}
 use borrow.Author.Needs.{needs}
-use Rattle.engine.proofs.Loads.{accepted-holds}
+use Rattle.loading.proofs.Loads.{accepted-holds}
 use Rattle.engine.proofs.Tabling.{short-refused, file-refused, file-tabled}
 use Rattle.engine.proofs.segments.Statement.{statement}
 use Rattle.engine.proofs.segments.Tie as tie

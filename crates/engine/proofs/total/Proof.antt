@@ -1,6 +1,6 @@
 use mathlib.Core.Path.{_∙_}
 use borrow.Author.Needs.{needs}
-use Rattle.engine.proofs.Loads.{accepted-holds}
+use Rattle.loading.proofs.Loads.{accepted-holds}
 use Rattle.engine.proofs.Answers.{total-refused, total-given}
 use Rattle.engine.proofs.total.Statement.{statement}
 use Rattle.engine.proofs.total.Tie as tie

@@ -7,7 +7,7 @@ use Rattle.model.specs.Ranges.{rows, rowS, rowL}
 use Rattle.model.specs.Network.{value, headOf}
 use Rattle.buffer.specs.Buffer.{recordsIn}
 use Rattle.reader.specs.Says.{readSays}
-use Rattle.reader.proofs.Steps.{says-next, says-stopped, next-within}
+use Rattle.records.proofs.Steps.{says-next, says-stopped, next-within}
 use Rattle.reader.proofs.Whole.{stations-stopped, lines-stopped, places-left, part-long, length₁, length₂, values-same, head-same, stations-written, lines-written}
 use borrow.Author.Needs.{needs}
 use Rattle.reader.proofs.read_after_head.Statement.{statement}

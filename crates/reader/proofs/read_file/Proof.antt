@@ -5,7 +5,7 @@ use borrow.Rule.Slice.PartMut.{same-len-mid}
 use Rattle.model.specs.Format.{recordsOf}
 use Rattle.model.specs.Ranges.{rows, rowN}
 use Rattle.reader.specs.Says.{readSays}
-use Rattle.reader.proofs.Steps.{says-next, says-stopped, next-forward}
+use Rattle.records.proofs.Steps.{says-next, says-stopped, next-forward}
 use Rattle.reader.proofs.Whole.{part-long, head-stopped, head-read, head-fits}
 use borrow.Author.Needs.{needs}
 use Rattle.reader.proofs.read_file.Statement.{statement}

@@ -14,10 +14,10 @@ use borrow.Fn.PlainCycle.{Measures, is, falls, and}
 use Rattle.search.proofs.extend.Reads as extend
 use Rattle.search.proofs.extend.Kinds as extend-kinds
 use Rattle.search.proofs.+extend.Lts-extend as extend-lts
-use Rattle.search.proofs.enter_once.Reads as enter-once-reads
+use Rattle.prospects.proofs.enter_once.Reads as enter-once-reads
 use Rattle.search.proofs.goes_deeper.Reads as goes-deeper-reads
 use Rattle.search.proofs.goes_on.Reads as goes-on-reads
-use Rattle.search.proofs.leave.Reads as leave-reads
+use Rattle.prospects.proofs.leave.Reads as leave-reads
 use Rattle.search.proofs.next_place.Reads as next-place-reads
 use Rattle.search.proofs.visit.Reads as visit-reads
 use Rattle.search.proofs.with_place.Reads as with-place-reads

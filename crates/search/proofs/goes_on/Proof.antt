@@ -6,7 +6,7 @@ use native.Mathlib.Omega.{arith}
 use borrow.Author.Tests.{ltb-true, ltb-false}
 use Rattle.buffer.specs.Buffer.{networkIn}
 use Rattle.theory.specs.Sizes.{read-sized, largest-size}
-use Rattle.search.specs.Walking.{placesFrom}
+use Rattle.bounds.specs.Bounds.{placesFrom}
 use borrow.Author.Needs.{needs}
 use Rattle.search.proofs.goes_on.Statement.{statement}
 use Rattle.search.proofs.goes_on.Tie as tie

@@ -1,0 +1,25 @@
+-- What the search of a file finds, by the answer of Search.
+use Prim.Native.Nat.{ℕ, _≤_}
+use mathlib.Core.Bool.{true, false}
+use mathlib.Core.List.{List}
+use lib.ListN.{take}
+use Rattle.model.specs.Answer.{Answer, given, refused, _>>=_}
+use Rattle.model.specs.Rules.{accepted}
+use Rattle.model.specs.Walk.{Found, search}
+use Rattle.model.specs.declared.SearchAnswer.{SearchAnswer}
+
+-- what the search of a file finds
+abbrev pub fileFound : List ℕ → Answer Found
+fileFound file = accepted file >>= λ N. given (search N)
+
+-- what Search found by its answer, with the set's places at the start of a list
+unfoldable pub foundBy : SearchAnswer → List ℕ → Answer Found
+foundBy (SearchAnswer.Finished m t v) best = given (record { members = take m best; best = t; visits = v; spent = false })
+foundBy (SearchAnswer.Spent m t v) best = given (record { members = take m best; best = t; visits = v; spent = true })
+foundBy (SearchAnswer.Refused number place) best = refused number place
+
+-- the answered set has at most 16 places
+unfoldable pub AtMost16 : SearchAnswer → Type 0
+AtMost16 (SearchAnswer.Finished m t v) = m ≤ 16
+AtMost16 (SearchAnswer.Spent m t v) = m ≤ 16
+AtMost16 (SearchAnswer.Refused number place) = Unit

@@ -1,0 +1,190 @@
+// A file loaded: read and held to the rules, with the lines from the HV stations outwards.
+ghost use mathlib.Core.Path.{_≡_};
+ghost use Rattle.model.specs.Answer.{Answer};
+ghost use Rattle.model.specs.Network.{Network};
+ghost use Rattle.theory.specs.Reading.{Read};
+ghost use Rattle.theory.specs.Radial.{Rules};
+ghost use Rattle.buffer.specs.Buffer.{networkIn};
+ghost use Rattle.model.specs.Rules.{radial, accepted};
+ghost use Rattle.theory.specs.Best.{Accepted};
+ghost use Rattle.outage.specs.Held.{HoldsCustomers, HoldsImpacts};
+ghost use Rattle.tree.specs.Outwards.{Outwards};
+ghost use Rattle.loading.specs.Loading.{forest, before, loaded, Prepared};
+use model::CheckAnswer;
+use reader::ReadAnswer;
+
+// The rules 4 to 8 in turn.
+fn forest_rules(net: &[u64; 5129]) -> CheckAnswer
+    requires { ⌜ Read (networkIn (now net)) ⌝ }
+    ensures { λ r. ⌜ ((next : Answer Network) → before r next ≡ forest (networkIn (now (net .entry))) next) ⌝ }
+    ensures { λ r. ⌜ (r ≡ CheckAnswer.Accepted → Rules (networkIn (now (net .entry)))) ⌝ }
+{
+    let stations = buffer::stations(net) as u64;
+    let open = radial::open_line(net);
+    if open != 0 {
+        return CheckAnswer::Refused {
+            number: 4,
+            record: 1 + stations + open,
+        };
+    }
+    let plain = radial::plain_at_hv(net);
+    if plain != 0 {
+        return CheckAnswer::Refused {
+            number: 5,
+            record: 1 + stations + plain,
+        };
+    }
+    let mut labels = stations_space();
+    if radial::path_returns(net, &mut labels) {
+        return CheckAnswer::Refused {
+            number: 6,
+            record: 0,
+        };
+    }
+    if radial::hv_joined(net, &labels) {
+        return CheckAnswer::Refused {
+            number: 7,
+            record: 0,
+        };
+    }
+    let unsupplied = radial::unsupplied(net, &labels);
+    if unsupplied != 0 {
+        return CheckAnswer::Refused {
+            number: 8,
+            record: 1 + unsupplied,
+        };
+    }
+    CheckAnswer::Accepted
+}
+
+// Room for a number of each station.
+pub fn stations_space() -> [u64; 512] {
+    [0; 512]
+}
+
+// The rules 4 to 9 in turn. Where they hold, the lists of the closed ends at each station and the lines from the HV stations
+// outwards are left in the buffers.
+fn rules(
+    net: &[u64; 5129],
+    heads: &mut [u64; 512],
+    nexts: &mut [u64; 1536],
+    near: &mut [u64; 768],
+    feed: &mut [u64; 768],
+    order: &mut [u64; 768],
+) -> CheckAnswer
+    requires { ⌜ Read (networkIn (now net)) ⌝ }
+    ensures { λ r. ⌜ loaded r (now (net .entry)) ≡ radial (networkIn (now (net .entry))) ⌝ }
+    ensures { λ r. ⌜ (r ≡ CheckAnswer.Accepted → Prepared (networkIn (now (net .entry))) (now (heads .exit)) (now (nexts .exit)) (now (near .exit)) (now (feed .exit)) (now (order .exit))) ⌝ }
+{
+    match forest_rules(net) {
+        CheckAnswer::Refused { number, record } => {
+            return CheckAnswer::Refused { number, record };
+        }
+        CheckAnswer::Accepted => {}
+    }
+    tree::link_ends(net, heads, nexts);
+    tree::outwards(net, heads, nexts, near, feed, order);
+    if tree::over_series(net, near, feed, order) {
+        return CheckAnswer::Refused {
+            number: 9,
+            record: 0,
+        };
+    }
+    CheckAnswer::Accepted
+}
+
+// Reads and checks a file. Where it is accepted, its network and what is prepared of it are left in the buffers.
+pub fn load(
+    file: &[u8],
+    net: &mut [u64; 5129],
+    heads: &mut [u64; 512],
+    nexts: &mut [u64; 1536],
+    near: &mut [u64; 768],
+    feed: &mut [u64; 768],
+    order: &mut [u64; 768],
+) -> CheckAnswer
+    ensures { λ r. ⌜ loaded r (now (net .exit)) ≡ accepted (now (file .entry)) ⌝ }
+    ensures { λ r. ⌜ (r ≡ CheckAnswer.Accepted → Prepared (networkIn (now (net .exit))) (now (heads .exit)) (now (nexts .exit)) (now (near .exit)) (now (feed .exit)) (now (order .exit))) ⌝ }
+{
+    match reader::read(file, net) {
+        ReadAnswer::Refused { number, record } => CheckAnswer::Refused { number, record },
+        ReadAnswer::Read => rules(net, heads, nexts, near, feed, order),
+    }
+}
+
+// The impact of a fault on each line of an accepted network, from the customers behind each line.
+pub fn line_impacts(
+    net: &[u64; 5129],
+    near: &[u64; 768],
+    feed: &[u64; 768],
+    order: &[u64; 768],
+    sums: &[u64; 768],
+    out: &mut [u64; 768],
+)
+    requires { ⌜ Accepted (networkIn (now net)) × Outwards (networkIn (now net)) (now near) (now feed) (now order) × HoldsCustomers (networkIn (now net)) (now sums) ⌝ }
+    ensures { λ r. ⌜ HoldsImpacts (networkIn (now (net .entry))) (now (out .exit)) ⌝ }
+{
+    let mut trips = lines_space();
+    outage::trips(net, near, feed, order, &mut trips);
+    outage::impacts(net, &trips, sums, out);
+}
+
+// The impact of a fault on each line of an accepted network.
+fn impacts(
+    net: &[u64; 5129],
+    heads: &[u64; 512],
+    nexts: &[u64; 1536],
+    near: &[u64; 768],
+    feed: &[u64; 768],
+    order: &[u64; 768],
+    out: &mut [u64; 768],
+)
+    requires { ⌜ Accepted (networkIn (now net)) × Prepared (networkIn (now net)) (now heads) (now nexts) (now near) (now feed) (now order) ⌝ }
+    ensures { λ r. ⌜ HoldsImpacts (networkIn (now (net .entry))) (now (out .exit)) ⌝ }
+{
+    let mut sums = lines_space();
+    outage::customers_behind(net, heads, nexts, &mut sums);
+    line_impacts(net, near, feed, order, &sums, out);
+}
+
+// Reads and checks a file. Where it is accepted, its network and the impact of a fault on each line are left in the buffers.
+pub fn load_impacts(file: &[u8], net: &mut [u64; 5129], out: &mut [u64; 768]) -> CheckAnswer
+    ensures { λ r. ⌜ loaded r (now (net .exit)) ≡ accepted (now (file .entry)) ⌝ }
+    ensures { λ r. ⌜ (r ≡ CheckAnswer.Accepted → HoldsImpacts (networkIn (now (net .exit))) (now (out .exit))) ⌝ }
+{
+    let mut heads = stations_space();
+    let mut nexts = nexts_space();
+    let mut near = lines_space();
+    let mut feed = lines_space();
+    let mut order = lines_space();
+    match load(
+        file,
+        net,
+        &mut heads,
+        &mut nexts,
+        &mut near,
+        &mut feed,
+        &mut order,
+    ) {
+        CheckAnswer::Refused { number, record } => CheckAnswer::Refused { number, record },
+        CheckAnswer::Accepted => {
+            impacts(net, &heads, &nexts, &near, &feed, &order, out);
+            CheckAnswer::Accepted
+        }
+    }
+}
+
+// Room for a network.
+pub fn net_space() -> [u64; 5129] {
+    [0; 5129]
+}
+
+// Room for a number of each end.
+pub fn nexts_space() -> [u64; 1536] {
+    [0; 1536]
+}
+
+// Room for a number of each line.
+pub fn lines_space() -> [u64; 768] {
+    [0; 768]
+}

@@ -1,0 +1,4 @@
+pub mod Marking
+pub mod PlaceOn
+pub mod Meeting
+pub mod Passing

@@ -1,0 +1,72 @@
+use borrow.Author.Needs.{needs}
+use Prim.Native.Nat.{_≤_}
+use mathlib.Core.Path.{_≡_, sym, subst}
+use native.Mathlib.Omega.{arith}
+use lib.ListN.{length, length-set}
+use Rattle.buffer.specs.Buffer.{networkIn}
+use Rattle.paths.proofs.Marking.{MarksAbove, marks-none, marks-next, marks-all}
+use Rattle.paths.proofs.fill_places.Statement.{statement}
+use Rattle.paths.proofs.fill_places.Tie as tie
+
+abbrev Inv-loop : tie.InvT-loop
+Inv-loop net marks₀ place₀ marks place = (place ≤ length (networkIn net .places)) × (length marks ≡ 1537) × MarksAbove (networkIn net) marks place
+
+abbrev μ-loop : tie.MeasureT-loop
+μ-loop net marks₀ place₀ marks place = place
+
+no-marks-requires : tie.Need-no-marks-requires Inv-loop μ-loop
+no-marks-requires c κs = search needs
+
+places-requires : tie.Need-places-requires Inv-loop μ-loop
+places-requires c κs = search needs
+
+loop-holds : tie.Need-loop-holds Inv-loop μ-loop
+loop-holds c =
+    let s = c .before .before .before in
+    let N = networkIn (s .args .net .now) in
+    let k = c .before .no-marks in
+    (omega arith, k .ensures .1, subst (MarksAbove N (k .last .0)) (sym (c .places .ensures)) (marks-none N (s .pre) (k .last .0) (k .ensures .0)))
+
+end-of-requires : tie.Need-end-of-requires Inv-loop μ-loop
+end-of-requires c κs = search needs
+
+mul-marks : tie.Need-mul-marks Inv-loop μ-loop
+mul-marks c = search needs
+
+element-write-marks : tie.Need-element-write-marks Inv-loop μ-loop
+element-write-marks c = search needs
+
+sub-place : tie.Need-sub-place Inv-loop μ-loop
+sub-place c = search needs
+
+loop-less : tie.Need-loop-less Inv-loop μ-loop
+loop-less c = search needs
+
+loop-again : tie.Need-loop-again Inv-loop μ-loop
+loop-again c =
+    let s = c .before .before .before .before .before .before in
+    let h = c .before .before .loop in
+    (omega arith, simp length-set (h .inv .1), marks-next (networkIn (s .args .net .now)) (s .pre) (h .marks) (h .place) (c .end-of .result) (omega arith) (omega arith) (c .end-of .ensures .0) (omega (arith, s .pre .head .lines)) (h .inv .2))
+
+returns : tie.Need-returns Inv-loop μ-loop
+returns c =
+    let s = c .before .before .before .before .before in
+    let h = c .before .loop in
+    marks-all (networkIn (s .args .net .now)) (s .pre) (h .marks) (subst (MarksAbove (networkIn (s .args .net .now)) (h .marks)) {x = h .place} {y = 0} (omega arith) (h .inv .2))
+
+pub fill-places-spec : {M : Type 1} → statement M
+fill-places-spec =
+    tie.close
+    (tie.spec
+    Inv-loop
+    μ-loop
+    no-marks-requires
+    places-requires
+    loop-holds
+    end-of-requires
+    mul-marks
+    element-write-marks
+    sub-place
+    loop-less
+    loop-again
+    returns)

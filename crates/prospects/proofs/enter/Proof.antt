@@ -1,0 +1,93 @@
+use Prim.Native.Nat.{_-_}
+use mathlib.Core.Path.{refl}
+use native.Mathlib.Omega.{arith}
+use lib.ListN.{take}
+use Rattle.buffer.specs.Buffer.{networkIn}
+use Rattle.prospects.proofs.Entering.{Written, row, last-few, place-few, written-none, later-place, written-more, written-all}
+use Rattle.prospects.proofs.enter.Statement.{statement}
+use Rattle.prospects.proofs.enter.Tie as tie
+
+abbrev Inv-loop : tie.InvT-loop
+Inv-loop net relations ends lists level₀ saved₀ set size last start row i₀ i-end level saved i = Written (networkIn net) lists (take size set) size last level₀ saved₀ i i-end level saved
+
+abbrev μ-loop : tie.MeasureT-loop
+μ-loop net relations ends lists level₀ saved₀ set size last start row i₀ i-end level saved i = i-end - i
+
+mul-start : tie.Need-mul-start Inv-loop μ-loop
+mul-start c = omega (arith, c .pre .few)
+
+mul-row : tie.Need-mul-row Inv-loop μ-loop
+mul-row c = omega (arith, last-few (c .pre))
+
+mul-i-end : tie.Need-mul-i-end Inv-loop μ-loop
+mul-i-end c = omega (arith, last-few (c .pre))
+
+element-copy-out-i-end : tie.Need-element-copy-out-i-end Inv-loop μ-loop
+element-copy-out-i-end c = omega (arith, last-few (c .pre))
+
+add-i-end : tie.Need-add-i-end Inv-loop μ-loop
+add-i-end c = omega (arith, row (c .before .pre) .few)
+
+loop-holds : tie.Need-loop-holds Inv-loop μ-loop
+loop-holds c = written-none (c .before .pre) _ refl
+
+add-place : tie.Need-add-place Inv-loop μ-loop
+add-place c = omega (arith, row (c .before .before .before .pre) .few, c .before .loop .inv .all)
+
+mul-place : tie.Need-mul-place Inv-loop μ-loop
+mul-place c = omega (arith, row (c .before .before .before .pre) .few, c .before .loop .inv .all)
+
+element-copy-out-place : tie.Need-element-copy-out-place Inv-loop μ-loop
+element-copy-out-place c = omega (arith, row (c .before .before .before .pre) .few, c .before .loop .inv .all)
+
+near-of-requires : tie.Need-near-of-requires Inv-loop μ-loop
+near-of-requires c κs = (later-place (c .before .before .before .before .before .pre) (c .before .before .before .loop .inv) (c .before .before .loop-test .taken), c .before .before .before .before .before .pre .coded)
+
+weight-of-requires : tie.Need-weight-of-requires Inv-loop μ-loop
+weight-of-requires c κs = later-place (c .before .before .before .before .before .before .before .pre) (c .before .before .before .before .before .loop .inv) (c .before .before .before .before .loop-test .taken)
+
+worst-of-requires : tie.Need-worst-of-requires Inv-loop μ-loop
+worst-of-requires c κs = later-place (c .before .before .before .before .before .before .before .before .before .pre) (c .before .before .before .before .before .before .before .loop .inv) (c .before .before .before .before .before .before .loop-test .taken)
+
+keep-requires : tie.Need-keep-requires Inv-loop μ-loop
+keep-requires c κs = (c .before .before .before .before .before .before .before .before .before .before .loop .inv .savedLong, omega (arith, c .before .before .before .before .before .before .before .before .before .before .before .before .pre .few), place-few (c .before .before .before .before .before .before .before .before .before .before .before .before .pre) (c .before .before .before .before .before .before .before .before .before .before .loop .inv) (c .before .before .before .before .before .before .before .before .before .loop-test .taken))
+
+put-requires : tie.Need-put-requires Inv-loop μ-loop
+put-requires c κs = (c .before .before .before .before .before .before .before .before .before .before .before .before .loop .inv .levelLong, place-few (c .before .before .before .before .before .before .before .before .before .before .before .before .before .before .pre) (c .before .before .before .before .before .before .before .before .before .before .before .before .loop .inv) (c .before .before .before .before .before .before .before .before .before .before .before .loop-test .taken))
+
+add-i : tie.Need-add-i Inv-loop μ-loop
+add-i c = omega (arith, row (c .before .before .before .before .before .before .before .before .before .before .before .before .before .before .before .pre) .few, c .before .before .before .before .before .before .before .before .before .before .before .before .before .loop .inv .all, c .before .before .before .before .before .before .before .before .before .before .before .before .loop-test .taken)
+
+loop-less : tie.Need-loop-less Inv-loop μ-loop
+loop-less c = omega (arith, c .before .before .before .before .before .before .before .before .before .before .before .before .loop-test .taken)
+
+loop-again : tie.Need-loop-again Inv-loop μ-loop
+loop-again c = written-more (c .before .before .before .before .before .before .before .before .before .before .before .before .before .before .before .pre) (c .before .before .before .before .before .before .before .before .before .before .before .before .before .loop .inv) (c .before .before .before .before .before .before .before .before .before .before .before .before .loop-test .taken) (c .before .before .before .before .before .before .before .before .before .near-of .ensures) (c .before .before .before .before .before .before .before .weight-of .ensures) (c .before .before .before .before .before .worst-of .ensures) (c .before .before .keep .ensures) (c .put .ensures)
+
+returns : tie.Need-returns Inv-loop μ-loop
+returns c = written-all (c .before .before .before .pre) (c .before .loop .inv) (c .loop-test .left)
+
+pub enter-spec : {M : Type 1} → statement M
+enter-spec =
+    tie.close
+    (tie.spec
+    Inv-loop
+    μ-loop
+    mul-start
+    mul-row
+    mul-i-end
+    element-copy-out-i-end
+    add-i-end
+    loop-holds
+    add-place
+    mul-place
+    element-copy-out-place
+    near-of-requires
+    weight-of-requires
+    worst-of-requires
+    keep-requires
+    put-requires
+    add-i
+    loop-less
+    loop-again
+    returns)

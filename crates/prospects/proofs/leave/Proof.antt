@@ -1,0 +1,128 @@
+use Prim.Native.Nat.{ℕ, _+_, _*_, _-_, _≤_}
+use mathlib.Core.Path.{_≡_, refl}
+use mathlib.Core.List.{List}
+use native.Mathlib.Omega.{arith}
+use lib.ListN.{length}
+use Rattle.relations.specs.Lists.{many}
+use Rattle.prospects.specs.Changes.{Changed}
+use Rattle.prospects.proofs.Undoing.{changed-less, changed-back}
+use Rattle.prospects.proofs.leave.Statement.{statement}
+use Rattle.prospects.proofs.leave.Tie as tie
+
+abbrev Inv-loop : tie.InvT-loop
+Inv-loop lists level₀ saved size last start row i₀ i-end level i = (i-end ≡ many lists last + 1) × (1 ≤ i) × (i ≤ i-end) × (length level ≡ 195) × ((old : List ℕ) → length old ≡ 195 → Changed lists last (size * 195) 1 (many lists last + 1) old level₀ saved → Changed lists last (size * 195) i (many lists last + 1) old level saved)
+
+abbrev μ-loop : tie.MeasureT-loop
+μ-loop lists level₀ saved size last start row i₀ i-end level i = i-end - i
+
+mul-start : tie.Need-mul-start Inv-loop μ-loop
+mul-start c = omega (arith, c .pre .2 .few)
+
+mul-row : tie.Need-mul-row Inv-loop μ-loop
+mul-row c = omega (arith, c .pre .2 .few)
+
+mul-i-end : tie.Need-mul-i-end Inv-loop μ-loop
+mul-i-end c = omega (arith, c .pre .2 .few)
+
+element-copy-out-i-end : tie.Need-element-copy-out-i-end Inv-loop μ-loop
+element-copy-out-i-end c = omega (arith, c .pre .2 .few)
+
+add-i-end : tie.Need-add-i-end Inv-loop μ-loop
+add-i-end c = omega (arith, c .before .pre .2 .few)
+
+loop-holds : tie.Need-loop-holds Inv-loop μ-loop
+loop-holds c = (refl, omega arith, omega arith, c .before .pre .0, λ old l x. x)
+
+add-place : tie.Need-add-place Inv-loop μ-loop
+add-place c = omega (arith, c .before .before .before .pre .2 .few, c .before .loop .inv .0)
+
+mul-place : tie.Need-mul-place Inv-loop μ-loop
+mul-place c = omega (arith, c .before .before .before .pre .2 .few, c .before .loop .inv .0)
+
+element-copy-out-place : tie.Need-element-copy-out-place Inv-loop μ-loop
+element-copy-out-place c = omega (arith, c .before .before .before .pre .2 .few, c .before .loop .inv .0)
+
+add-put : tie.Need-add-put Inv-loop μ-loop
+add-put c = omega (arith, c .before .before .before .before .before .pre .1, c .before .before .before .before .before .pre .2 .later (c .before .before .before .loop .i) (c .before .before .before .loop .inv .1) (omega (arith, c .before .before .before .loop .inv .0, c .before .before .loop-test .taken)))
+
+mul-put : tie.Need-mul-put Inv-loop μ-loop
+mul-put c = omega (arith, c .before .before .before .before .before .pre .1, c .before .before .before .before .before .pre .2 .later (c .before .before .before .loop .i) (c .before .before .before .loop .inv .1) (omega (arith, c .before .before .before .loop .inv .0, c .before .before .loop-test .taken)))
+
+element-copy-out-put : tie.Need-element-copy-out-put Inv-loop μ-loop
+element-copy-out-put c = omega (arith, c .before .before .before .before .before .pre .1, c .before .before .before .before .before .pre .2 .later (c .before .before .before .loop .i) (c .before .before .before .loop .inv .1) (omega (arith, c .before .before .before .loop .inv .0, c .before .before .loop-test .taken)))
+
+add-put-2 : tie.Need-add-put-2 Inv-loop μ-loop
+add-put-2 c = omega (arith, c .before .before .before .before .before .before .pre .1, c .before .before .before .before .before .before .pre .2 .later (c .before .before .before .before .loop .i) (c .before .before .before .before .loop .inv .1) (omega (arith, c .before .before .before .before .loop .inv .0, c .before .before .before .loop-test .taken)))
+
+add-put-3 : tie.Need-add-put-3 Inv-loop μ-loop
+add-put-3 c = omega (arith, c .before .before .before .before .before .before .pre .1, c .before .before .before .before .before .before .pre .2 .later (c .before .before .before .before .loop .i) (c .before .before .before .before .loop .inv .1) (omega (arith, c .before .before .before .before .loop .inv .0, c .before .before .before .loop-test .taken)))
+
+mul-put-2 : tie.Need-mul-put-2 Inv-loop μ-loop
+mul-put-2 c = omega (arith, c .before .before .before .before .before .before .pre .1, c .before .before .before .before .before .before .pre .2 .later (c .before .before .before .before .loop .i) (c .before .before .before .before .loop .inv .1) (omega (arith, c .before .before .before .before .loop .inv .0, c .before .before .before .loop-test .taken)))
+
+element-copy-out-put-2 : tie.Need-element-copy-out-put-2 Inv-loop μ-loop
+element-copy-out-put-2 c = omega (arith, c .before .before .before .before .before .before .pre .1, c .before .before .before .before .before .before .pre .2 .later (c .before .before .before .before .loop .i) (c .before .before .before .before .loop .inv .1) (omega (arith, c .before .before .before .before .loop .inv .0, c .before .before .before .loop-test .taken)))
+
+add-put-4 : tie.Need-add-put-4 Inv-loop μ-loop
+add-put-4 c = omega (arith, c .before .before .before .before .before .before .before .pre .1, c .before .before .before .before .before .before .before .pre .2 .later (c .before .before .before .before .before .loop .i) (c .before .before .before .before .before .loop .inv .1) (omega (arith, c .before .before .before .before .before .loop .inv .0, c .before .before .before .before .loop-test .taken)))
+
+add-put-5 : tie.Need-add-put-5 Inv-loop μ-loop
+add-put-5 c = omega (arith, c .before .before .before .before .before .before .before .pre .1, c .before .before .before .before .before .before .before .pre .2 .later (c .before .before .before .before .before .loop .i) (c .before .before .before .before .before .loop .inv .1) (omega (arith, c .before .before .before .before .before .loop .inv .0, c .before .before .before .before .loop-test .taken)))
+
+mul-put-3 : tie.Need-mul-put-3 Inv-loop μ-loop
+mul-put-3 c = omega (arith, c .before .before .before .before .before .before .before .pre .1, c .before .before .before .before .before .before .before .pre .2 .later (c .before .before .before .before .before .loop .i) (c .before .before .before .before .before .loop .inv .1) (omega (arith, c .before .before .before .before .before .loop .inv .0, c .before .before .before .before .loop-test .taken)))
+
+element-copy-out-put-3 : tie.Need-element-copy-out-put-3 Inv-loop μ-loop
+element-copy-out-put-3 c = omega (arith, c .before .before .before .before .before .before .before .pre .1, c .before .before .before .before .before .before .before .pre .2 .later (c .before .before .before .before .before .loop .i) (c .before .before .before .before .before .loop .inv .1) (omega (arith, c .before .before .before .before .before .loop .inv .0, c .before .before .before .before .loop-test .taken)))
+
+put-requires : tie.Need-put-requires Inv-loop μ-loop
+put-requires c κs = (c .before .before .before .before .before .before .loop .inv .3, omega (arith, c .before .before .before .before .before .before .before .before .pre .2 .later (c .before .before .before .before .before .before .loop .i) (c .before .before .before .before .before .before .loop .inv .1) (omega (arith, c .before .before .before .before .before .before .loop .inv .0, c .before .before .before .before .before .loop-test .taken))))
+
+add-i : tie.Need-add-i Inv-loop μ-loop
+add-i c = omega (arith, c .before .before .before .before .before .before .before .before .before .pre .2 .few, c .before .before .before .before .before .before .before .loop .inv .0, c .before .before .before .before .before .before .loop-test .taken)
+
+loop-less : tie.Need-loop-less Inv-loop μ-loop
+loop-less c = omega (arith, c .before .before .before .before .before .before .loop-test .taken)
+
+loop-again : tie.Need-loop-again Inv-loop μ-loop
+loop-again c =
+    let v = c .before .before .before .before .before .before .before .loop .inv in
+    let t = c .before .before .before .before .before .before .loop-test .taken in
+    (v .0, omega arith, omega arith, c .put .ensures .long, λ old l x. changed-less (c .before .before .before .before .before .before .before .before .before .pre .2) (v .1) (omega (arith, v .0)) (c .put .ensures) (v .4 old l x))
+
+returns : tie.Need-returns Inv-loop μ-loop
+returns c =
+    let v = c .before .loop .inv in
+    λ old l x. changed-back (omega (arith, v .0, c .loop-test .left)) l (v .3) (v .4 old l x)
+
+pub leave-spec : {M : Type 1} → statement M
+leave-spec =
+    tie.close
+    (tie.spec
+    Inv-loop
+    μ-loop
+    mul-start
+    mul-row
+    mul-i-end
+    element-copy-out-i-end
+    add-i-end
+    loop-holds
+    add-place
+    mul-place
+    element-copy-out-place
+    add-put
+    mul-put
+    element-copy-out-put
+    add-put-2
+    add-put-3
+    mul-put-2
+    element-copy-out-put-2
+    add-put-4
+    add-put-5
+    mul-put-3
+    element-copy-out-put-3
+    put-requires
+    add-i
+    loop-less
+    loop-again
+    returns)

@@ -1,0 +1,70 @@
+use Prim.Native.Nat.{_+_, _-_}
+use mathlib.Core.Path.{_∙_}
+use native.Mathlib.Omega.{arith}
+use Rattle.buffer.specs.Buffer.{networkIn}
+use Rattle.prospects.proofs.Saving.{Saved, saving-is, saved-none, next-later, saved-more, saved-all}
+use Rattle.prospects.proofs.savings_of.Statement.{statement}
+use Rattle.prospects.proofs.savings_of.Tie as tie
+
+abbrev Inv-loop : tie.InvT-loop
+Inv-loop net relations ends sums level savings₀ none i₀ i-end savings i = Saved (networkIn net) i i-end savings
+
+abbrev μ-loop : tie.MeasureT-loop
+μ-loop net relations ends sums level savings₀ none i₀ i-end savings i = i-end - i
+
+places-requires : tie.Need-places-requires Inv-loop μ-loop
+places-requires c κs = tt
+
+loop-holds : tie.Need-loop-holds Inv-loop μ-loop
+loop-holds c = saved-none (networkIn (c .before .args .net .now)) (c .places .result) (c .before .args .savings .now) (c .before .pre .0 .accepted) (c .places .ensures) (c .before .pre .2)
+
+add-fall : tie.Need-add-fall Inv-loop μ-loop
+add-fall c = omega arith
+
+fall-requires : tie.Need-fall-requires Inv-loop μ-loop
+fall-requires c κs =
+    let d = c .before .before .before .before in
+    let t = d .pre .0 in
+    let N = networkIn (d .args .net .now) in
+    (next-later N (c .before .before .loop .inv) (c .before .loop-test .taken) (d .args .relations .now) (d .args .level .now) (t .accepted) (t .related) (d .pre .1), t .coded, t .behind)
+
+number-requires : tie.Need-number-requires Inv-loop μ-loop
+number-requires c κs = tt
+
+mul-savings : tie.Need-mul-savings Inv-loop μ-loop
+mul-savings c = omega arith
+
+element-write-savings : tie.Need-element-write-savings Inv-loop μ-loop
+element-write-savings c = omega arith
+
+add-i : tie.Need-add-i Inv-loop μ-loop
+add-i c = omega arith
+
+loop-less : tie.Need-loop-less Inv-loop μ-loop
+loop-less c = omega arith
+
+loop-again : tie.Need-loop-again Inv-loop μ-loop
+loop-again c =
+    let N = networkIn (c .before .before .before .before .before .before .args .net .now) in
+    saved-more N (c .before .before .before .before .loop .inv) (c .number .result) (c .before .before .before .loop-test .taken) (c .number .ensures ∙ saving-is N (c .before .before .before .before .loop .i + 1) (c .before .fall .result .0) (c .before .fall .ensures))
+
+returns : tie.Need-returns Inv-loop μ-loop
+returns c = saved-all (networkIn (c .before .before .before .args .net .now)) (c .before .loop .inv) (c .loop-test .left)
+
+pub savings-of-spec : {M : Type 1} → statement M
+savings-of-spec =
+    tie.close
+    (tie.spec
+    Inv-loop
+    μ-loop
+    places-requires
+    loop-holds
+    add-fall
+    fall-requires
+    number-requires
+    mul-savings
+    element-write-savings
+    add-i
+    loop-less
+    loop-again
+    returns)

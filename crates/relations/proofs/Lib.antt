@@ -1,0 +1,3 @@
+pub mod Climbing
+pub mod Above
+pub mod Listing

@@ -1,0 +1,210 @@
+use mathlib.Core.Path.{_∙_}
+use native.Mathlib.Omega.{arith}
+use Rattle.buffer.specs.Buffer.{networkIn}
+use Rattle.relations.proofs.Above.{place-line, place-end, above-far, above-hv, feeder-near, above-fed}
+use borrow.Author.Needs.{needs}
+use Rattle.relations.proofs.above_of.Statement.{statement}
+use Rattle.relations.proofs.above_of.Tie as tie
+
+place-line-requires : tie.Need-place-line-requires
+place-line-requires c κs = search needs
+
+place-side-requires : tie.Need-place-side-requires
+place-side-requires c κs = search needs
+
+sub-if1 : tie.Need-sub-if1
+sub-if1 c =
+    let s = c .before .before in
+    omega (arith, place-line (networkIn (s .args .net .now)) (s .pre .0) (s .args .place) (c .before .place-line .result) (s .pre .4) (c .before .place-line .ensures))
+
+mul-if1 : tie.Need-mul-if1
+mul-if1 c =
+    let s = c .before .before in
+    omega (arith, place-line (networkIn (s .args .net .now)) (s .pre .0) (s .args .place) (c .before .place-line .result) (s .pre .4) (c .before .place-line .ensures))
+
+element-copy-out-if1 : tie.Need-element-copy-out-if1
+element-copy-out-if1 c =
+    let s = c .before .before in
+    omega (arith, place-line (networkIn (s .args .net .now)) (s .pre .0) (s .args .place) (c .before .place-line .result) (s .pre .4) (c .before .place-line .ensures))
+
+sub-result : tie.Need-sub-result
+sub-result c =
+    let s = c .before .before .before .before in
+    omega (arith, place-line (networkIn (s .args .net .now)) (s .pre .0) (s .args .place) (c .before .before .before .place-line .result) (s .pre .4) (c .before .before .before .place-line .ensures))
+
+mul-result : tie.Need-mul-result
+mul-result c =
+    let s = c .before .before .before .before in
+    omega (arith, place-line (networkIn (s .args .net .now)) (s .pre .0) (s .args .place) (c .before .before .before .place-line .result) (s .pre .4) (c .before .before .before .place-line .ensures))
+
+element-copy-out-result : tie.Need-element-copy-out-result
+element-copy-out-result c =
+    let s = c .before .before .before .before in
+    omega (arith, place-line (networkIn (s .args .net .now)) (s .pre .0) (s .args .place) (c .before .before .before .place-line .result) (s .pre .4) (c .before .before .before .place-line .ensures))
+
+returns : tie.Need-returns
+returns c =
+    let s = c .before .before .before .before .before in
+    let g = s .args in
+    let N = networkIn (g .net .now) in
+    let l = c .before .before .before .before .place-line .result in
+    let t = c .before .before .before .place-side .result in
+    let i = place-line N (s .pre .0) (g .place) l (s .pre .4) (c .before .before .before .before .place-line .ensures) in
+    above-far N (s .pre .0) (g .near .now) (g .feed .now) (g .marks .now) (g .firsts .now) (s .pre .1) (s .pre .2) (s .pre .3) l t (i .0) (i .1) (c .before .if1 .taken) ∙ place-end N (s .pre .0) (g .place) l t (c .before .before .before .before .place-line .ensures) (c .before .before .before .place-side .ensures)
+
+sub-feeder : tie.Need-sub-feeder
+sub-feeder c =
+    let s = c .before .before .before .before in
+    omega (arith, place-line (networkIn (s .args .net .now)) (s .pre .0) (s .args .place) (c .before .before .before .place-line .result) (s .pre .4) (c .before .before .before .place-line .ensures))
+
+mul-feeder : tie.Need-mul-feeder
+mul-feeder c =
+    let s = c .before .before .before .before in
+    omega (arith, place-line (networkIn (s .args .net .now)) (s .pre .0) (s .args .place) (c .before .before .before .place-line .result) (s .pre .4) (c .before .before .before .place-line .ensures))
+
+element-copy-out-feeder : tie.Need-element-copy-out-feeder
+element-copy-out-feeder c =
+    let s = c .before .before .before .before in
+    omega (arith, place-line (networkIn (s .args .net .now)) (s .pre .0) (s .args .place) (c .before .before .before .place-line .result) (s .pre .4) (c .before .before .before .place-line .ensures))
+
+returns-2 : tie.Need-returns-2
+returns-2 c =
+    let s = c .before .before .before .before .before .before in
+    let g = s .args in
+    let N = networkIn (g .net .now) in
+    let l = c .before .before .before .before .before .place-line .result in
+    let t = c .before .before .before .before .place-side .result in
+    let i = place-line N (s .pre .0) (g .place) l (s .pre .4) (c .before .before .before .before .before .place-line .ensures) in
+    above-hv N (s .pre .0) (g .near .now) (g .feed .now) (g .marks .now) (g .firsts .now) (s .pre .1) (s .pre .2) (s .pre .3) l t (i .0) (i .1) (c .before .before .if1 .left) (c .if2 .taken) ∙ place-end N (s .pre .0) (g .place) l t (c .before .before .before .before .before .place-line .ensures) (c .before .before .before .before .place-side .ensures)
+
+mul-code : tie.Need-mul-code
+mul-code c =
+    let s = c .before .before .before .before .before .before in
+    let g = s .args in
+    let N = networkIn (g .net .now) in
+    let l = c .before .before .before .before .before .place-line .result in
+    let t = c .before .before .before .before .place-side .result in
+    let i = place-line N (s .pre .0) (g .place) l (s .pre .4) (c .before .before .before .before .before .place-line .ensures) in
+    omega (arith, i, feeder-near N (s .pre .0) (g .near .now) (g .feed .now) (g .marks .now) (g .firsts .now) (s .pre .1) (s .pre .2) (s .pre .3) l t (i .0) (i .1) (c .before .before .if1 .left) (c .if2 .left))
+
+add-code : tie.Need-add-code
+add-code c =
+    let s = c .before .before .before .before .before .before in
+    let g = s .args in
+    let N = networkIn (g .net .now) in
+    let l = c .before .before .before .before .before .place-line .result in
+    let t = c .before .before .before .before .place-side .result in
+    let i = place-line N (s .pre .0) (g .place) l (s .pre .4) (c .before .before .before .before .before .place-line .ensures) in
+    omega (arith, i, feeder-near N (s .pre .0) (g .near .now) (g .feed .now) (g .marks .now) (g .firsts .now) (s .pre .1) (s .pre .2) (s .pre .3) l t (i .0) (i .1) (c .before .before .if1 .left) (c .if2 .left))
+
+sub-code : tie.Need-sub-code
+sub-code c = search needs
+
+mul-code-2 : tie.Need-mul-code-2
+mul-code-2 c =
+    let s = c .before .before .before .before .before .before in
+    let g = s .args in
+    let N = networkIn (g .net .now) in
+    let l = c .before .before .before .before .before .place-line .result in
+    let t = c .before .before .before .before .place-side .result in
+    let i = place-line N (s .pre .0) (g .place) l (s .pre .4) (c .before .before .before .before .before .place-line .ensures) in
+    omega (arith, i, feeder-near N (s .pre .0) (g .near .now) (g .feed .now) (g .marks .now) (g .firsts .now) (s .pre .1) (s .pre .2) (s .pre .3) l t (i .0) (i .1) (c .before .before .if1 .left) (c .if2 .left))
+
+element-copy-out-code : tie.Need-element-copy-out-code
+element-copy-out-code c =
+    let s = c .before .before .before .before .before .before in
+    let g = s .args in
+    let N = networkIn (g .net .now) in
+    let l = c .before .before .before .before .before .place-line .result in
+    let t = c .before .before .before .before .place-side .result in
+    let i = place-line N (s .pre .0) (g .place) l (s .pre .4) (c .before .before .before .before .before .place-line .ensures) in
+    omega (arith, i, feeder-near N (s .pre .0) (g .near .now) (g .feed .now) (g .marks .now) (g .firsts .now) (s .pre .1) (s .pre .2) (s .pre .3) l t (i .0) (i .1) (c .before .before .if1 .left) (c .if2 .left))
+
+sub-code-2 : tie.Need-sub-code-2
+sub-code-2 c =
+    let s = c .before .before .before .before .before .before .before in
+    let g = s .args in
+    let N = networkIn (g .net .now) in
+    let l = c .before .before .before .before .before .before .place-line .result in
+    let t = c .before .before .before .before .before .place-side .result in
+    let i = place-line N (s .pre .0) (g .place) l (s .pre .4) (c .before .before .before .before .before .before .place-line .ensures) in
+    omega (arith, i, feeder-near N (s .pre .0) (g .near .now) (g .feed .now) (g .marks .now) (g .firsts .now) (s .pre .1) (s .pre .2) (s .pre .3) l t (i .0) (i .1) (c .before .before .before .if1 .left) (c .before .if2 .left))
+
+sub-first-from : tie.Need-sub-first-from
+sub-first-from c =
+    let s = c .before .before .before .before .before .before .before in
+    let g = s .args in
+    let N = networkIn (g .net .now) in
+    let l = c .before .before .before .before .before .before .place-line .result in
+    let t = c .before .before .before .before .before .place-side .result in
+    let i = place-line N (s .pre .0) (g .place) l (s .pre .4) (c .before .before .before .before .before .before .place-line .ensures) in
+    omega (arith, i, feeder-near N (s .pre .0) (g .near .now) (g .feed .now) (g .marks .now) (g .firsts .now) (s .pre .1) (s .pre .2) (s .pre .3) l t (i .0) (i .1) (c .before .before .before .if1 .left) (c .before .if2 .left))
+
+mul-first-from : tie.Need-mul-first-from
+mul-first-from c =
+    let s = c .before .before .before .before .before .before .before in
+    let g = s .args in
+    let N = networkIn (g .net .now) in
+    let l = c .before .before .before .before .before .before .place-line .result in
+    let t = c .before .before .before .before .before .place-side .result in
+    let i = place-line N (s .pre .0) (g .place) l (s .pre .4) (c .before .before .before .before .before .before .place-line .ensures) in
+    omega (arith, i, feeder-near N (s .pre .0) (g .near .now) (g .feed .now) (g .marks .now) (g .firsts .now) (s .pre .1) (s .pre .2) (s .pre .3) l t (i .0) (i .1) (c .before .before .before .if1 .left) (c .before .if2 .left))
+
+element-copy-out-first-from : tie.Need-element-copy-out-first-from
+element-copy-out-first-from c =
+    let s = c .before .before .before .before .before .before .before in
+    let g = s .args in
+    let N = networkIn (g .net .now) in
+    let l = c .before .before .before .before .before .before .place-line .result in
+    let t = c .before .before .before .before .before .place-side .result in
+    let i = place-line N (s .pre .0) (g .place) l (s .pre .4) (c .before .before .before .before .before .before .place-line .ensures) in
+    omega (arith, i, feeder-near N (s .pre .0) (g .near .now) (g .feed .now) (g .marks .now) (g .firsts .now) (s .pre .1) (s .pre .2) (s .pre .3) l t (i .0) (i .1) (c .before .before .before .if1 .left) (c .before .if2 .left))
+
+first-from-requires : tie.Need-first-from-requires
+first-from-requires c κs =
+    let s = c .before .before .before .before .before .before .before .before in
+    let g = s .args in
+    let N = networkIn (g .net .now) in
+    let l = c .before .before .before .before .before .before .before .place-line .result in
+    let t = c .before .before .before .before .before .before .place-side .result in
+    let i = place-line N (s .pre .0) (g .place) l (s .pre .4) (c .before .before .before .before .before .before .before .place-line .ensures) in
+    omega (arith, i, feeder-near N (s .pre .0) (g .near .now) (g .feed .now) (g .marks .now) (g .firsts .now) (s .pre .1) (s .pre .2) (s .pre .3) l t (i .0) (i .1) (c .before .before .before .before .if1 .left) (c .before .before .if2 .left))
+
+returns-3 : tie.Need-returns-3
+returns-3 c =
+    let s = c .before .before .before .before .before .before .before .before .before in
+    let g = s .args in
+    let N = networkIn (g .net .now) in
+    let l = c .before .before .before .before .before .before .before .before .place-line .result in
+    let t = c .before .before .before .before .before .before .before .place-side .result in
+    let i = place-line N (s .pre .0) (g .place) l (s .pre .4) (c .before .before .before .before .before .before .before .before .place-line .ensures) in
+    above-fed N (s .pre .0) (g .near .now) (g .feed .now) (g .marks .now) (g .firsts .now) (s .pre .1) (s .pre .2) (s .pre .3) l t (i .0) (i .1) (c .before .before .before .before .before .if1 .left) (c .before .before .before .if2 .left) (c .first-from .result) (c .first-from .ensures) ∙ place-end N (s .pre .0) (g .place) l t (c .before .before .before .before .before .before .before .before .place-line .ensures) (c .before .before .before .before .before .before .before .place-side .ensures)
+
+pub above-of-spec : {M : Type 1} → statement M
+above-of-spec =
+    tie.close
+    (tie.spec
+    place-line-requires
+    place-side-requires
+    sub-if1
+    mul-if1
+    element-copy-out-if1
+    sub-result
+    mul-result
+    element-copy-out-result
+    returns
+    sub-feeder
+    mul-feeder
+    element-copy-out-feeder
+    returns-2
+    mul-code
+    add-code
+    sub-code
+    mul-code-2
+    element-copy-out-code
+    sub-code-2
+    sub-first-from
+    mul-first-from
+    element-copy-out-first-from
+    first-from-requires
+    returns-3)

@@ -1,0 +1,10 @@
+pub mod Numbers
+pub mod OnEnds
+pub mod Gathering
+pub mod UnderPlaces
+pub mod Weighing
+pub mod FirstPlaces
+pub mod FarStations
+pub mod Raising
+pub mod Series
+pub mod LevelZero

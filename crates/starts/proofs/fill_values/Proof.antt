@@ -1,0 +1,96 @@
+use Prim.Native.Nat.{_+_, _-_, _≤_}
+use mathlib.Core.Path.{_≡_}
+use native.Mathlib.Omega.{arith}
+use lib.ListN.{length, length-set}
+use borrow.Author.Needs.{needs}
+use Rattle.buffer.specs.Buffer.{networkIn}
+use Rattle.starts.proofs.LevelZero.{Valued, valued-more, valued-all}
+use Rattle.starts.proofs.fill_values.Statement.{statement}
+use Rattle.starts.proofs.fill_values.Tie as tie
+
+abbrev Inv-loop : tie.InvT-loop
+Inv-loop net relations own worst level₀ p₀ p-end level p =
+    (p-end ≡ length (networkIn net .places) + 1) × (1 ≤ p) × (p ≤ p-end) × (length level ≡ length level₀) × Valued (networkIn net) level p
+
+abbrev μ-loop : tie.MeasureT-loop
+μ-loop net relations own worst level₀ p₀ p-end level p = p-end - p
+
+places-requires : tie.Need-places-requires Inv-loop μ-loop
+places-requires c κs = search needs
+
+add-p-end : tie.Need-add-p-end Inv-loop μ-loop
+add-p-end c = search needs
+
+loop-holds : tie.Need-loop-holds Inv-loop μ-loop
+loop-holds c = search needs
+
+start-weight-requires : tie.Need-start-weight-requires Inv-loop μ-loop
+start-weight-requires c κs = search needs
+
+add-level : tie.Need-add-level Inv-loop μ-loop
+add-level c = search needs
+
+mul-level : tie.Need-mul-level Inv-loop μ-loop
+mul-level c = search needs
+
+slice-write-level : tie.Need-slice-write-level Inv-loop μ-loop
+slice-write-level c = search needs
+
+start-worst-requires : tie.Need-start-worst-requires Inv-loop μ-loop
+start-worst-requires c κs = search needs
+
+add-level-2 : tie.Need-add-level-2 Inv-loop μ-loop
+add-level-2 c = search needs
+
+mul-level-2 : tie.Need-mul-level-2 Inv-loop μ-loop
+mul-level-2 c = search needs
+
+slice-write-level-2 : tie.Need-slice-write-level-2 Inv-loop μ-loop
+slice-write-level-2 c = simp length-set (omega arith)
+
+add-p : tie.Need-add-p Inv-loop μ-loop
+add-p c = search needs
+
+loop-less : tie.Need-loop-less Inv-loop μ-loop
+loop-less c = search needs
+
+loop-again : tie.Need-loop-again Inv-loop μ-loop
+loop-again c =
+    let s = c .before .before .before .before .before .before .before in
+    let h = c .before .before .before .before .loop in
+    let N = networkIn (s .args .net .now) in (
+      h .inv .0,
+      omega arith,
+      omega arith,
+      simp length-set (h .inv .3),
+      valued-more N (s .pre .0 .read .placeCount) (h .level) (h .p) (c .before .start-weight .result) (c .start-worst .result) (omega arith) (omega arith) (c .before .start-weight .ensures) (c .start-worst .ensures) (h .inv .4),
+    )
+
+same-length : tie.Need-same-length Inv-loop μ-loop
+same-length c = search needs
+
+returns : tie.Need-returns Inv-loop μ-loop
+returns c = let h = c .before .loop in valued-all (networkIn (c .before .before .before .before .args .net .now)) (h .level) (h .p) (omega arith) (h .inv .4)
+
+pub fill-values-spec : {M : Type 1} → statement M
+fill-values-spec =
+    tie.close
+    (tie.spec
+    Inv-loop
+    μ-loop
+    places-requires
+    add-p-end
+    loop-holds
+    start-weight-requires
+    add-level
+    mul-level
+    slice-write-level
+    start-worst-requires
+    add-level-2
+    mul-level-2
+    slice-write-level-2
+    add-p
+    loop-less
+    loop-again
+    same-length
+    returns)

@@ -1,0 +1,149 @@
+use Prim.Native.Nat.{_+_, _-_, _≤_}
+use mathlib.Core.Path.{_≡_, refl}
+use native.Mathlib.Omega.{arith}
+use lib.ListN.{length, getD, length-set}
+use borrow.Author.Needs.{needs}
+use Rattle.buffer.specs.Buffer.{networkIn}
+use Rattle.outage.proofs.Calls.{read-fits}
+use Rattle.starts.proofs.Raising.{Raised, raised-none, raised-more, raised-all, first-few}
+use Rattle.starts.proofs.own_worsts.Statement.{statement}
+use Rattle.starts.proofs.own_worsts.Tie as tie
+
+abbrev Inv-loop : tie.InvT-loop
+Inv-loop net near marks firsts counts worst₀ line₀ line-end worst line =
+    (line-end ≡ length (networkIn net .lines) + 1) × (1 ≤ line) × (line ≤ line-end) × (length worst ≡ 65) × Raised (networkIn net) line-end worst line
+
+abbrev μ-loop : tie.MeasureT-loop
+μ-loop net near marks firsts counts worst₀ line₀ line-end worst line = line-end - line
+
+lines-requires : tie.Need-lines-requires Inv-loop μ-loop
+lines-requires c κs = search needs
+
+add-line-end : tie.Need-add-line-end Inv-loop μ-loop
+add-line-end c = search needs
+
+loop-holds : tie.Need-loop-holds Inv-loop μ-loop
+loop-holds c = (omega arith, omega arith, omega arith, refl, raised-none _ _ 65)
+
+sub-first : tie.Need-sub-first Inv-loop μ-loop
+sub-first c = search needs
+
+mul-first : tie.Need-mul-first Inv-loop μ-loop
+mul-first c = search needs
+
+element-copy-out-first : tie.Need-element-copy-out-first Inv-loop μ-loop
+element-copy-out-first c = search needs
+
+mul-larger : tie.Need-mul-larger Inv-loop μ-loop
+mul-larger c =
+    let s = c .before .before .before .before in
+    omega (arith, first-few (networkIn (s .args .net .now)) (s .pre .0) (s .args .firsts .now) (s .pre .3) (c .before .before .loop .line) (omega arith) (omega arith))
+
+array-read-larger : tie.Need-array-read-larger Inv-loop μ-loop
+array-read-larger c =
+    let s = c .before .before .before .before in
+    omega (arith, first-few (networkIn (s .args .net .now)) (s .pre .0) (s .args .firsts .now) (s .pre .3) (c .before .before .loop .line) (omega arith) (omega arith))
+
+sub-larger : tie.Need-sub-larger Inv-loop μ-loop
+sub-larger c = search needs
+
+mul-larger-2 : tie.Need-mul-larger-2 Inv-loop μ-loop
+mul-larger-2 c = search needs
+
+element-copy-out-larger : tie.Need-element-copy-out-larger Inv-loop μ-loop
+element-copy-out-larger c = search needs
+
+larger-requires : tie.Need-larger-requires Inv-loop μ-loop
+larger-requires c κs = search needs
+
+mul-worst : tie.Need-mul-worst Inv-loop μ-loop
+mul-worst c =
+    let s = c .before .before .before .before .before .before in
+    omega (arith, first-few (networkIn (s .args .net .now)) (s .pre .0) (s .args .firsts .now) (s .pre .3) (c .before .before .before .before .loop .line) (omega arith) (omega arith))
+
+array-write-worst : tie.Need-array-write-worst Inv-loop μ-loop
+array-write-worst c =
+    let s = c .before .before .before .before .before .before in
+    omega (arith, first-few (networkIn (s .args .net .now)) (s .pre .0) (s .args .firsts .now) (s .pre .3) (c .before .before .before .before .loop .line) (omega arith) (omega arith))
+
+far-place-requires : tie.Need-far-place-requires Inv-loop μ-loop
+far-place-requires c κs = let s = c .before .before .before .before .before .before in (s .pre .0, s .pre .1, s .pre .2, s .pre .3, record { fits = read-fits (networkIn (s .args .net .now)) (s .pre .0 .read); low = omega arith; high = omega arith })
+
+mul-larger-3 : tie.Need-mul-larger-3 Inv-loop μ-loop
+mul-larger-3 c = search needs
+
+array-read-larger-2 : tie.Need-array-read-larger-2 Inv-loop μ-loop
+array-read-larger-2 c = search needs
+
+far-count-requires : tie.Need-far-count-requires Inv-loop μ-loop
+far-count-requires c κs = let s = c .before .before .before .before .before .before .before in (s .pre .0, s .pre .1, s .pre .4, record { fits = read-fits (networkIn (s .args .net .now)) (s .pre .0 .read); low = omega arith; high = omega arith })
+
+larger-requires-2 : tie.Need-larger-requires-2 Inv-loop μ-loop
+larger-requires-2 c κs = search needs
+
+mul-worst-2 : tie.Need-mul-worst-2 Inv-loop μ-loop
+mul-worst-2 c = search needs
+
+array-write-worst-2 : tie.Need-array-write-worst-2 Inv-loop μ-loop
+array-write-worst-2 c = search needs
+
+add-line : tie.Need-add-line Inv-loop μ-loop
+add-line c = search needs
+
+loop-less : tie.Need-loop-less Inv-loop μ-loop
+loop-less c = search needs
+
+loop-again : tie.Need-loop-again Inv-loop μ-loop
+loop-again c =
+    let s = c .before .before .before .before .before .before .before .before .before in
+    let g = s .args in
+    let h = c .before .before .before .before .before .before .before .loop in
+    let N = networkIn (g .net .now) in
+    let few = first-few N (s .pre .0) (g .firsts .now) (s .pre .3) (h .line) (omega arith) (omega arith) in
+    let far = c .before .before .far-place .ensures in (
+      h .inv .0,
+      omega arith,
+      omega arith,
+      simp length-set (h .inv .3),
+      raised-more N _ (h .worst) (h .line) (getD (g .firsts .now) (h .line - 1) 0) (c .before .before .far-place .result) (getD (g .counts .now) (h .line - 1) 0) (c .before .far-count .result) (c .before .before .before .larger .result) (c .larger2 .result)
+          (omega arith) (omega arith) (omega arith) (s .pre .3 (h .line) (omega arith) (omega arith)) (s .pre .4 (h .line) (omega arith) (omega arith)) (far .0) (c .before .far-count .ensures)
+          (c .before .before .before .larger .ensures) (c .larger2 .ensures) (h .inv .4),
+    )
+
+returns : tie.Need-returns Inv-loop μ-loop
+returns c =
+    let s = c .before .before .before in
+    let h = c .before .loop in
+    raised-all (networkIn (s .args .net .now)) (s .pre .0) _ (h .inv .0) (h .worst) (h .line) (omega arith) (h .inv .4)
+
+pub own-worsts-spec : {M : Type 1} → statement M
+own-worsts-spec =
+    tie.close
+    (tie.spec
+    Inv-loop
+    μ-loop
+    lines-requires
+    add-line-end
+    loop-holds
+    sub-first
+    mul-first
+    element-copy-out-first
+    mul-larger
+    array-read-larger
+    sub-larger
+    mul-larger-2
+    element-copy-out-larger
+    larger-requires
+    mul-worst
+    array-write-worst
+    far-place-requires
+    mul-larger-3
+    array-read-larger-2
+    far-count-requires
+    larger-requires-2
+    mul-worst-2
+    array-write-worst-2
+    add-line
+    loop-less
+    loop-again
+    returns)
