@@ -6,3 +6,4 @@ pub mod Claims
 pub mod Runs
 pub mod Visits
 pub mod Answer
+pub mod Limits
