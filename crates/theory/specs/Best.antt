@@ -12,7 +12,7 @@ use Rattle.model.specs.Network.{Network, noPlace, networkOf}
 use Rattle.model.specs.Paths.{state, isOpen}
 use Rattle.model.specs.Rules.{seriesBroken, radial, accepted}
 use Rattle.model.specs.Sets.{placeNumbers, placeAt, allowed, setTotal, saving, allowedSets, allowedCount}
-use Rattle.model.specs.Walk.{search}
+use Rattle.model.specs.Walk.{Found, walk, search}
 use Rattle.model.specs.Demand.{AllowedSet, Answered}
 use Rattle.savings.specs.Breakers.{endAt, Valid}
 use Rattle.savings.specs.Totals.{setTotal-bound}
@@ -46,6 +46,11 @@ valid-part N Sublistᴰ·slnil h = tt
 valid-part N (Sublistᴰ·cons s) h = valid-part N s (λ p m. h p (List·Memᴰ·tail m))
 valid-part N (Sublistᴰ·cons-cons {a = p} e s) h = (h p (List·Memᴰ·head e), valid-part N s (λ q m. h q (List·Memᴰ·tail m)))
 
+-- the walk of a file's search with a limit of its own
+unfoldable pub walkWithin : Network → ℕ → Found
+unfolding walk setTotal allowed saving placeNumbers
+walkWithin N limit = walk limit (λ S. setTotal N S) (λ S. allowed N S) (λ p. saving N p) (N .head .adds) (placeNumbers N)
+
 module _ (N : Network) (a : Accepted N) where
   -- a place is on a plain end
   pub place-plain : (p : ℕ) → List·Memᴰ p (placeNumbers N) → state N (endAt N p) ≡ 0
@@ -68,9 +73,14 @@ module _ (N : Network) (a : Accepted N) where
     saves = λ S T s h. setTotal-bound N (tree N (a .read) (a .rules)) S T (set-valid s);
   }
 
+  -- what the walk answers, with any limit
+  pub within-answers : (limit : ℕ) → Answers limit (λ S. setTotal N S) (λ S. allowed N S) (N .head .adds) (placeNumbers N) (walkWithin N limit)
+  unfolding walkWithin placeNumbers
+  within-answers limit = walk-answers limit (λ S. setTotal N S) (λ S. allowed N S) (λ p. saving N p) (N .head .adds) (placeNumbers N) (numbers-rising 1 (length (N .places))) asks
+
   answers : Answers (N .head .visits) (λ S. setTotal N S) (λ S. allowed N S) (N .head .adds) (placeNumbers N) (search N)
-  unfolding search placeNumbers
-  answers = walk-answers (N .head .visits) (λ S. setTotal N S) (λ S. allowed N S) (λ p. saving N p) (N .head .adds) (placeNumbers N) (numbers-rising 1 (length (N .places))) asks
+  unfolding search walkWithin
+  answers = within-answers (N .head .visits)
 
   fine : {S : List ℕ} → AllowedSet N S → Fine (λ S. allowed N S) (placeNumbers N) S
   fine x = (x .places, x .allows)

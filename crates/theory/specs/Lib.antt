@@ -10,5 +10,6 @@ pub mod Gathering
 pub mod Behind
 pub mod With
 pub mod Best
+pub mod Limits
 pub mod Segments
 pub mod TextSizes
