@@ -46,6 +46,12 @@ valid-part N Sublistᴰ·slnil h = tt
 valid-part N (Sublistᴰ·cons s) h = valid-part N s (λ p m. h p (List·Memᴰ·tail m))
 valid-part N (Sublistᴰ·cons-cons {a = p} e s) h = (h p (List·Memᴰ·head e), valid-part N s (λ q m. h q (List·Memᴰ·tail m)))
 
+pub fine : {N : Network} {S : List ℕ} → AllowedSet N S → Fine (λ S. allowed N S) (placeNumbers N) S
+fine x = (x .places, x .allows)
+
+pub allowed-set : {N : Network} {S : List ℕ} → Fine (λ S. allowed N S) (placeNumbers N) S → AllowedSet N S
+allowed-set x = record { places = x .0; allows = x .1 }
+
 -- the walk of a file's search with a limit of its own
 unfoldable pub walkWithin : Network → ℕ → Found
 unfolding walk setTotal allowed saving placeNumbers
@@ -81,12 +87,6 @@ module _ (N : Network) (a : Accepted N) where
   answers : Answers (N .head .visits) (λ S. setTotal N S) (λ S. allowed N S) (N .head .adds) (placeNumbers N) (search N)
   unfolding search walkWithin
   answers = within-answers (N .head .visits)
-
-  fine : {S : List ℕ} → AllowedSet N S → Fine (λ S. allowed N S) (placeNumbers N) S
-  fine x = (x .places, x .allows)
-
-  allowed-set : {S : List ℕ} → Fine (λ S. allowed N S) (placeNumbers N) S → AllowedSet N S
-  allowed-set x = record { places = x .0; allows = x .1 }
 
   -- demand 3 of the defined search
   pub search-answered : Answered N (not (search N .spent)) (search N .members) (search N .best) (search N .visits)

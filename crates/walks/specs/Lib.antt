@@ -4,6 +4,7 @@ pub mod Order
 pub mod Count
 pub mod Claims
 pub mod Runs
+pub mod Listing
 pub mod Visits
 pub mod Answer
 pub mod Limits

@@ -6,7 +6,7 @@ use mathlib.Core.List.{List, [], _∷_, _++_}
 use Prim.Native.Nat.{ℕ, zero, suc, _≤_, _<_, min, zero-le}
 use native.Mathlib.Omega.{arith}
 use Rattle.model.specs.Walk.{Found, visit, hopeless, extend, start, walk}
-use Rattle.walks.specs.Runs.{extend-spent}
+use Rattle.walks.specs.Runs.{on-both, on-pairs, extend-spent}
 use Rattle.walks.specs.Visits.{Saw, full, better, other, saw}
 
 -- What a walk with the limit `limit` finds, `f`, beside what it finds with a limit at which it is not spent, `g`.
@@ -17,17 +17,6 @@ pub record Limited (limit : ℕ) (f g : Found) : Type 0 where
   pub visitsAre : f .visits ≡ min limit (g .visits)
   -- not spent, it finds what the other does
   pub foundSame : f .spent ≡ false → f ≡ g
-
--- what holds of both branches, or of both pairs of branches, holds whichever way the test goes
-module _ {A : Type 0} where
-  on-both : (P : A → Type 0) (b : Bool) {x y : A} → P x → P y → P (elim b as (λ _. A) [ true ↦ x | false ↦ y ])
-  on-both P true p q = p
-  on-both P false p q = q
-
-  on-pairs : (R : A → A → Type 0) (b : Bool) {x y z w : A} → R x z → R y w
-      → R (elim b as (λ _. A) [ true ↦ x | false ↦ y ]) (elim b as (λ _. A) [ true ↦ z | false ↦ w ])
-  on-pairs R true p q = p
-  on-pairs R false p q = q
 
 module _ (totalOf : List ℕ → ℕ) (isAllowed : List ℕ → Bool) (savingOf : ℕ → ℕ) where
   abbrev Visit : ℕ → List ℕ → Found → Found

@@ -51,7 +51,7 @@ unfolding numbers
 numbers-rising from zero = tt
 numbers-rising from (suc count) = ((λ p m. omega (arith, numbers-from (from + 1) count p m)), numbers-rising (from + 1) count)
 
--- no set is before itself, so a list in order has no set twice
+-- no set is before itself
 pub before-irrefl : (S : List ℕ) → Before S S → ⊥
 before-irrefl (p ∷ S) (smaller h) = omega arith
 before-irrefl (p ∷ S) (further e h) = before-irrefl S h

@@ -22,6 +22,17 @@ module _ {A : Type 0} (x y : A) where
   pub on-false : {b : Bool} → b ≡ false → elim b as (λ _. A) [ true ↦ x | false ↦ y ] ≡ y
   on-false e = rw e
 
+-- what holds of both branches, or of both pairs of branches, holds whichever way the test goes
+module _ {A : Type 0} where
+  pub on-both : (P : A → Type 0) (b : Bool) {x y : A} → P x → P y → P (elim b as (λ _. A) [ true ↦ x | false ↦ y ])
+  on-both P true p q = p
+  on-both P false p q = q
+
+  pub on-pairs : (R : A → A → Type 0) (b : Bool) {x y z w : A} → R x z → R y w
+      → R (elim b as (λ _. A) [ true ↦ x | false ↦ y ]) (elim b as (λ _. A) [ true ↦ z | false ↦ w ])
+  on-pairs R true p q = p
+  on-pairs R false p q = q
+
 module _ (limit : ℕ) (totalOf : List ℕ → ℕ) (isAllowed : List ℕ → Bool) (savingOf : ℕ → ℕ) where
   abbrev Visit : List ℕ → Found → Found
   Visit = visit limit totalOf isAllowed savingOf
