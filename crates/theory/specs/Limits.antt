@@ -9,7 +9,7 @@ use Rattle.model.specs.Walk.{Found, search}
 use Rattle.walks.specs.Limits.{Limited, walk-limited}
 use Rattle.theory.specs.Best.{Accepted, walkWithin, within-answers}
 
--- the walk without a limit: no walk of an accepted file has more visits than there are allowed sets
+-- The walk without a limit. The number of allowed sets stands in for one: an accepted file's walk is not spent at it.
 unfoldable pub unlimited : Network → Found
 unfolding walkWithin allowedCount
 unlimited N = walkWithin N (allowedCount N)
