@@ -1,8 +1,8 @@
 // Weights, customers and outage totals as types of their own. A weight belongs to a line and a customer count to a station;
 // only their product is an outage amount.
 ghost use mathlib.Core.Path.{_≡_};
-ghost use Prim.Native.Nat.{ℕ, _+_, _*_, _-_, _^_, _≤_, _<_};
-ghost use lib.Dec.{leb, ltb};
+ghost use Prim.Native.Nat.{_+_, _*_, _-_, _^_, _≤_, _<_};
+ghost use lib.Dec.{ltb};
 
 // A line's weight, in millionths of a failure a year.
 pub struct Weight(u64);

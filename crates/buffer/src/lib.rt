@@ -1,12 +1,11 @@
 // A network in a buffer of 5,129 numbers: the head's numbers at 0 to 7, the number of places at 8, then 2 numbers a station
 // from 9 on, 5 a line from 1033 on and 4 a place from 4873 on. Stations, lines, ends and places have the file's numbers, from 1.
 ghost use mathlib.Core.Path.{_≡_};
-ghost use Prim.Native.Nat.{ℕ, _≤_};
 ghost use lib.ListN.{length};
 ghost use Rattle.model.specs.Paths.{state, isBreaker, stationAt, isHV, customersOf};
 ghost use Rattle.model.specs.Sets.{placeAt};
 ghost use Rattle.buffer.specs.Buffer.{networkIn};
-ghost use Rattle.buffer.specs.Fits.{Fits, StationThere, LineThere, EndThere, PlaceThere, lineIn, endIn};
+ghost use Rattle.buffer.specs.Fits.{StationThere, LineThere, EndThere, PlaceThere, lineIn, endIn};
 
 // How many stations there are.
 pub fn stations(net: &[u64; 5129]) -> usize
@@ -34,6 +33,41 @@ pub fn minutes(net: &[u64; 5129]) -> u64
     ensures { λ r. ⌜ r ≡ networkIn (now (net .entry)) .head .minutes ⌝ }
 {
     net[2]
+}
+
+// The most breakers that a path may pass.
+pub fn series(net: &[u64; 5129]) -> u64
+    ensures { λ r. ⌜ r ≡ networkIn (now (net .entry)) .head .series ⌝ }
+{
+    net[3]
+}
+
+// How many breakers may be added.
+pub fn adds(net: &[u64; 5129]) -> usize
+    ensures { λ r. ⌜ r ≡ networkIn (now (net .entry)) .head .adds ⌝ }
+{
+    net[4] as usize
+}
+
+// The money for added breakers.
+pub fn money(net: &[u64; 5129]) -> u64
+    ensures { λ r. ⌜ r ≡ networkIn (now (net .entry)) .head .money ⌝ }
+{
+    net[5]
+}
+
+// The hours for added breakers.
+pub fn hours(net: &[u64; 5129]) -> u64
+    ensures { λ r. ⌜ r ≡ networkIn (now (net .entry)) .head .hours ⌝ }
+{
+    net[6]
+}
+
+// The most visits of a search.
+pub fn visits(net: &[u64; 5129]) -> u64
+    ensures { λ r. ⌜ r ≡ networkIn (now (net .entry)) .head .visits ⌝ }
+{
+    net[7]
 }
 
 // Whether a station is an HV station.

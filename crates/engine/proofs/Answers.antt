@@ -11,7 +11,7 @@ use Rattle.model.specs.Answer.{Answer, given, refused, refuseNumber}
 use Rattle.model.specs.Network.{Network}
 use Rattle.model.specs.Outage.{impact, total, figure}
 use Rattle.model.specs.Rules.{accepted}
-use Rattle.model.specs.Calls.{impactOf, impactAnswered, impactSays, Totals, totalled, totalSays}
+use Rattle.model.specs.Calls.{impactOf, impactAnswered, impactSays, totalled, totalSays}
 use Rattle.model.specs.declared.CheckAnswer.{CheckAnswer}
 use Rattle.model.specs.declared.ImpactAnswer.{ImpactAnswer}
 use Rattle.model.specs.declared.TotalAnswer.{TotalAnswer}

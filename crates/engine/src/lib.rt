@@ -1,8 +1,9 @@
 // The calls of the engine.
 ghost use mathlib.Core.Path.{_≡_};
+ghost use mathlib.Core.Bool.{true, false};
+ghost use mathlib.Core.Logic.{_⊎_};
 ghost use mathlib.Core.List.{List, _++_};
-ghost use Prim.Native.Nat.{ℕ, _≤_};
-ghost use lib.Dec.{ltb};
+ghost use Prim.Native.Nat.{ℕ, _≤_, _<_};
 ghost use lib.ListN.{length, take, drop};
 ghost use Rattle.model.specs.Answer.{given};
 ghost use Rattle.buffer.specs.Buffer.{networkIn};
@@ -43,6 +44,13 @@ pub fn check(file: &[u8]) -> CheckAnswer
     )
 }
 
+// Whether a number is a line's.
+fn is_line(net: &[u64; 5129], line: u64) -> bool
+    ensures { λ r. ⌜ (r ≡ true → (1 ≤ line) × (line ≤ length (networkIn (now (net .entry)) .lines))) × (r ≡ false → (line < 1) ⊎ (length (networkIn (now (net .entry)) .lines) < line)) ⌝ }
+{
+    1 <= line && line <= buffer::lines(net) as u64
+}
+
 // Impact: the customers that a fault on a line cuts off.
 pub fn impact(file: &[u8], line: u64) -> ImpactAnswer
     ensures { λ r. ⌜ impactSays r ≡ impactAnswered (now (file .entry)) line ⌝ }
@@ -52,7 +60,7 @@ pub fn impact(file: &[u8], line: u64) -> ImpactAnswer
     match loading::load_impacts(file, &mut net, &mut impacts) {
         CheckAnswer::Refused { number, record } => ImpactAnswer::Refused { number, record },
         CheckAnswer::Accepted => {
-            if 1 <= line && line <= buffer::lines(&net) as u64 {
+            if is_line(&net, line) {
                 ImpactAnswer::Customers(impacts[line as usize - 1])
             } else {
                 ImpactAnswer::Refused {
@@ -138,13 +146,20 @@ fn load_search(file: &[u8], best: &mut [u64; 16]) -> SearchAnswer
     }
 }
 
+// Whether a lent list is too short for the members of a set.
+fn short_members(room: usize) -> bool
+    ensures { λ r. ⌜ (r ≡ true → room < 16) × (r ≡ false → 16 ≤ room) ⌝ }
+{
+    room < 16
+}
+
 // Search: which places should get a breaker. Their numbers are written at the start of `members`.
 pub fn search(file: &[u8], members: &mut [u64]) -> SearchAnswer
     ensures { λ r. ⌜ searchSays r ≡ searchAnswered (now (file .entry)) (now (members .entry)) ⌝ }
     ensures { λ r. ⌜ now (members .exit) ≡ searchLeaves (now (file .entry)) (now (members .entry)) ⌝ }
     ensures { λ r. ⌜ Demand3 (now (file .entry)) r (now (members .exit)) ⌝ }
 {
-    if members.len() < 16 {
+    if short_members(members.len()) {
         return SearchAnswer::Refused {
             number: 10,
             record: 0,
@@ -193,12 +208,19 @@ fn report_network(
     )
 }
 
+// Whether a lent text is too short for every report.
+fn short_text(room: usize) -> bool
+    ensures { λ r. ⌜ (r ≡ true → room < 32768) × (r ≡ false → 32768 ≤ room) ⌝ }
+{
+    room < 32768
+}
+
 // Report: the totals, the impact of a fault on each line and what the search found, as text at the start of `text`.
 pub fn report(file: &[u8], text: &mut [u8]) -> ReportAnswer
     ensures { λ r. ⌜ reportSays r ≡ reportAnswered (now (file .entry)) (now (text .entry)) ⌝ }
     ensures { λ r. ⌜ now (text .exit) ≡ reportLeaves (now (file .entry)) (now (text .entry)) ⌝ }
 {
-    if text.len() < 32768 {
+    if short_text(text.len()) {
         return ReportAnswer::Refused {
             number: 10,
             record: 0,
@@ -249,7 +271,7 @@ fn table_network(
 
 // Whether a lent table is too short: the longest has five numbers for each end of 768 lines.
 fn short_table(room: usize) -> bool
-    ensures { λ r. ⌜ r ≡ ltb room 7680 ⌝ }
+    ensures { λ r. ⌜ (r ≡ true → room < 7680) × (r ≡ false → 7680 ≤ room) ⌝ }
 {
     room < 7680
 }

@@ -1,8 +1,8 @@
 -- From what the reader and the rules say of a file to what a call answers.
 use Prim.Native.Nat.{ℕ}
-use mathlib.Core.Path.{_≡_, refl, sym, ap, _∙_}
+use mathlib.Core.Path.{_≡_, sym, ap, _∙_}
 use mathlib.Core.List.{List}
-use Rattle.model.specs.Answer.{Answer, given, refused, _>>=_}
+use Rattle.model.specs.Answer.{Answer, given, _>>=_}
 use Rattle.model.specs.Network.{Network}
 use Rattle.model.specs.Network.{networkOf}
 use Rattle.model.specs.Rules.{radial, accepted}

@@ -11,6 +11,7 @@ use Rattle.model.specs.Answer.{Answer, given, refused, refuseOpenLine, refusePl
 use Rattle.model.specs.Network.{Network}
 use Rattle.model.specs.Paths.{stationNumbers, lineNumbers}
 use Rattle.model.specs.Rules.{bothOpen, unprotected, somePathReturns, someJoined, isSupplied, seriesBroken, unless, unlessSome, stationRecord, lineRecord, radial}
+use Rattle.theory.specs.Reading.{Read}
 use Rattle.theory.specs.Radial.{Rules}
 use Rattle.radial.specs.First.{first-zero}
 use Rattle.model.specs.declared.CheckAnswer.{CheckAnswer}
@@ -80,17 +81,28 @@ module _ (N : Network) where
   abbrev unsuppliedStation : ℕ
   unsuppliedStation = firstOr 0 (λ s. not (isSupplied N s)) (stationNumbers N)
 
-  pub openLine-most : openLine ≤ 1 + length (N .lines)
+  openLine-most : openLine ≤ 1 + length (N .lines)
   unfolding lineNumbers
   openLine-most = first-most (bothOpen N) 1 (length (N .lines))
 
-  pub plainLine-most : plainLine ≤ 1 + length (N .lines)
+  plainLine-most : plainLine ≤ 1 + length (N .lines)
   unfolding lineNumbers
   plainLine-most = first-most (unprotected N) 1 (length (N .lines))
 
-  pub unsuppliedStation-most : unsuppliedStation ≤ 1 + length (N .stations)
+  unsuppliedStation-most : unsuppliedStation ≤ 1 + length (N .stations)
   unfolding stationNumbers
   unsuppliedStation-most = first-most (λ s. not (isSupplied N s)) 1 (length (N .stations))
+
+  -- in a file that is read they are small
+  module _ (d : Read N) where
+    pub open-small : {l : ℕ} → l ≡ openLine → l ≤ 769
+    open-small e = omega (arith, e, openLine-most, d .lineCount, d .head .lines .high)
+
+    pub plain-small : {l : ℕ} → l ≡ plainLine → l ≤ 769
+    plain-small e = omega (arith, e, plainLine-most, d .lineCount, d .head .lines .high)
+
+    pub unsupplied-small : {s : ℕ} → s ≡ unsuppliedStation → s ≤ 513
+    unsupplied-small e = omega (arith, e, unsuppliedStation-most, d .stationCount, d .head .stations .high)
 
   module _ (next : Answer Network) where
     pub refused-4 : 1 ≤ openLine → refused 4 (1 + length (N .stations) + openLine) ≡ forest N next
@@ -156,13 +168,13 @@ refusal-says : (N : Network) (n i : ℕ) → ((next : Answer Network) → refuse
 unfolding before
 refusal-says N n i h = (h, not-accepted)
 
-module _ (N : Network) (stations opened : ℕ) (s : stations ≡ length (N .stations)) (o : opened ≡ openLine N) where
-  pub says-4 : (opened ≡ 0 → ⊥) → Says N (CheckAnswer.Refused 4 (1 + stations + opened))
-  says-4 h = refusal-says N 4 _ (λ next. (λ i. refused 4 (1 + s i + o i)) ∙ refused-4 N next (omega arith))
+module _ (N : Network) (opened : ℕ) (o : opened ≡ openLine N) where
+  pub says-4 : {place : ℕ} → place ≡ lineRecord N opened → (opened ≡ 0 → ⊥) → Says N (CheckAnswer.Refused 4 place)
+  says-4 r h = refusal-says N 4 _ (λ next. (λ i. refused 4 (r i)) ∙ (λ i. refused 4 (lineRecord N (o i))) ∙ refused-4 N next (omega arith))
 
   module _ (z4 : opened ≡ 0) (plain : ℕ) (p : plain ≡ plainLine N) where
-    pub says-5 : (plain ≡ 0 → ⊥) → Says N (CheckAnswer.Refused 5 (1 + stations + plain))
-    says-5 h = refusal-says N 5 _ (λ next. (λ i. refused 5 (1 + s i + p i)) ∙ refused-5 N next (sym o ∙ z4) (omega arith))
+    pub says-5 : {place : ℕ} → place ≡ lineRecord N plain → (plain ≡ 0 → ⊥) → Says N (CheckAnswer.Refused 5 place)
+    says-5 r h = refusal-says N 5 _ (λ next. (λ i. refused 5 (r i)) ∙ (λ i. refused 5 (lineRecord N (p i))) ∙ refused-5 N next (sym o ∙ z4) (omega arith))
 
     module _ (z5 : plain ≡ 0) where
       pub says-6 : somePathReturns N ≡ true → Says N (CheckAnswer.Refused 6 0)
@@ -173,8 +185,8 @@ module _ (N : Network) (stations opened : ℕ) (s : stations ≡ length (N .stat
         says-7 e = refusal-says N 7 0 (λ next. refused-7 N next (sym o ∙ z4) (sym p ∙ z5) z6 e)
 
         module _ (z7 : someJoined N ≡ false) (lowest : ℕ) (u : lowest ≡ unsuppliedStation N) where
-          pub says-8 : (lowest ≡ 0 → ⊥) → Says N (CheckAnswer.Refused 8 (1 + lowest))
-          says-8 h = refusal-says N 8 _ (λ next. (λ i. refused 8 (1 + u i)) ∙ refused-8 N next (sym o ∙ z4) (sym p ∙ z5) z6 z7 (omega arith))
+          pub says-8 : {place : ℕ} → place ≡ stationRecord lowest → (lowest ≡ 0 → ⊥) → Says N (CheckAnswer.Refused 8 place)
+          says-8 r h = refusal-says N 8 _ (λ next. (λ i. refused 8 (r i)) ∙ (λ i. refused 8 (stationRecord (u i))) ∙ refused-8 N next (sym o ∙ z4) (sym p ∙ z5) z6 z7 (omega arith))
 
           pub says-accepted : lowest ≡ 0 → Says N CheckAnswer.Accepted
           unfolding before

@@ -1,7 +1,7 @@
 -- What loading a file answers: the rules 4 to 8 in turn, and the network of an accepted file in the buffer.
 use Prim.Native.Nat.{ℕ}
 use mathlib.Core.Path.{_≡_, refl}
-use mathlib.Core.Bool.{true, false, not}
+use mathlib.Core.Bool.{not}
 use mathlib.Core.List.{List}
 use Rattle.model.specs.Answer.{Answer, given, refused, refuseOpenLine, refusePlainAtHV, refuseReturn, refuseJoined, refuseUnsupplied, refuseSeries}
 use Rattle.model.specs.Network.{Network}

@@ -1,11 +1,12 @@
 // A file loaded: read and held to the rules, with the lines from the HV stations outwards.
 ghost use mathlib.Core.Path.{_≡_};
+ghost use Prim.Native.Nat.{_≤_};
 ghost use Rattle.model.specs.Answer.{Answer};
 ghost use Rattle.model.specs.Network.{Network};
 ghost use Rattle.theory.specs.Reading.{Read};
 ghost use Rattle.theory.specs.Radial.{Rules};
 ghost use Rattle.buffer.specs.Buffer.{networkIn};
-ghost use Rattle.model.specs.Rules.{radial, accepted};
+ghost use Rattle.model.specs.Rules.{stationRecord, lineRecord, radial, accepted};
 ghost use Rattle.theory.specs.Best.{Accepted};
 ghost use Rattle.outage.specs.Held.{HoldsCustomers, HoldsImpacts};
 ghost use Rattle.tree.specs.Outwards.{Outwards};
@@ -13,25 +14,40 @@ ghost use Rattle.loading.specs.Loading.{forest, before, loaded, Prepared
 use model::CheckAnswer;
 use reader::ReadAnswer;
 
+// The record of a line: behind the head and the stations.
+fn line_record(net: &[u64; 5129], line: u64) -> u64
+    requires { ⌜ Read (networkIn (now net)) × (line ≤ 769) ⌝ }
+    ensures { λ r. ⌜ r ≡ lineRecord (networkIn (now (net .entry))) line ⌝ }
+{
+    1 + buffer::stations(net) as u64 + line
+}
+
+// The record of a station: behind the head.
+fn station_record(station: u64) -> u64
+    requires { ⌜ station ≤ 513 ⌝ }
+    ensures { λ r. ⌜ r ≡ stationRecord station ⌝ }
+{
+    1 + station
+}
+
 // The rules 4 to 8 in turn.
 fn forest_rules(net: &[u64; 5129]) -> CheckAnswer
     requires { ⌜ Read (networkIn (now net)) ⌝ }
     ensures { λ r. ⌜ ((next : Answer Network) → before r next ≡ forest (networkIn (now (net .entry))) next) ⌝ }
     ensures { λ r. ⌜ (r ≡ CheckAnswer.Accepted → Rules (networkIn (now (net .entry)))) ⌝ }
 {
-    let stations = buffer::stations(net) as u64;
     let open = radial::open_line(net);
     if open != 0 {
         return CheckAnswer::Refused {
             number: 4,
-            record: 1 + stations + open,
+            record: line_record(net, open),
         };
     }
     let plain = radial::plain_at_hv(net);
     if plain != 0 {
         return CheckAnswer::Refused {
             number: 5,
-            record: 1 + stations + plain,
+            record: line_record(net, plain),
         };
     }
     let mut labels = stations_space();
@@ -51,7 +67,7 @@ fn forest_rules(net: &[u64; 5129]) -> CheckAnswer
     if unsupplied != 0 {
         return CheckAnswer::Refused {
             number: 8,
-            record: 1 + unsupplied,
+            record: station_record(unsupplied),
         };
     }
     CheckAnswer::Accepted

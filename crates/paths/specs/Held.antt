@@ -1,8 +1,7 @@
 -- Buffers with numbers for each line and each place of a network: what a line's path meets first, how many breakers are on it, and
 -- which end a place is on.
-use Prim.Native.Nat.{ℕ, _+_, _-_, _*_, _≤_}
+use Prim.Native.Nat.{ℕ, _-_, _*_, _≤_}
 use mathlib.Core.Path.{_≡_}
-use mathlib.Core.Bool.{true, false}
 use mathlib.Core.List.{List, []}
 use lib.ListN.{length, getD}
 use Rattle.model.specs.Lists.{firstOr}
@@ -16,9 +15,8 @@ use Rattle.tree.specs.Outwards.{nearEnd}
 use Rattle.tree.specs.Counts.{pathBreakers}
 use Rattle.outage.specs.Held.{HoldsTrips}
 use Rattle.sets.specs.Ways.{has}
-use Rattle.sets.specs.Onward.{onward}
 use Rattle.sets.specs.Stops.{firstStop, firstPlace}
-use Rattle.sets.specs.Sets.{route, nearAt, weightAt, worstAt}
+use Rattle.sets.specs.Sets.{route}
 use Rattle.sets.specs.Apart.{placeEnds}
 
 -- the number of the place on an end, 0 if there is none

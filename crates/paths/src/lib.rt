@@ -1,13 +1,14 @@
 // What the paths of the lines meet on their way to the HV station: breakers and places. An end has a code: 1 and 2 are the ends of
 // line 1, 3 and 4 those of line 2; 0 is none. The places have the file's numbers, from 1; 0 is none.
 ghost use mathlib.Core.Path.{_≡_};
+ghost use mathlib.Core.Bool.{true, false};
 ghost use mathlib.Core.List.{List, _∷_};
 ghost use lib.ListN.{length, getD};
 ghost use Rattle.theory.specs.Best.{Accepted};
 ghost use Rattle.buffer.specs.Buffer.{networkIn};
 ghost use Rattle.tree.specs.Outwards.{Outwards, nearEnd, feeder};
 ghost use Rattle.paths.specs.Held.{HoldsEnds, HoldsPlaces, HoldsLines};
-ghost use Prim.Native.Nat.{ℕ, _+_, _*_, _-_, _≤_};
+ghost use Prim.Native.Nat.{ℕ, _+_, _*_, _-_, _≤_, _<_};
 ghost use Rattle.model.specs.Paths.{End};
 ghost use Rattle.savings.specs.Breakers.{endAt};
 ghost use Rattle.theory.specs.Reading.{Read};
@@ -48,6 +49,13 @@ fn no_marks(marks: &mut [u64; 1537])
     *marks = [0; 1537];
 }
 
+// Whether a number is a place's: the first place is 1.
+fn is_place(place: usize) -> bool
+    ensures { λ r. ⌜ (r ≡ true → 1 ≤ place) × (r ≡ false → place < 1) ⌝ }
+{
+    1 <= place
+}
+
 // The place on each end, by the end's code.
 pub fn fill_places(net: &[u64; 5129], marks: &mut [u64; 1537])
     requires { ⌜ Read (networkIn (now net)) ⌝ }
@@ -55,7 +63,7 @@ pub fn fill_places(net: &[u64; 5129], marks: &mut [u64; 1537])
 {
     no_marks(marks);
     let mut place = buffer::places(net);
-    while place != 0 {
+    while is_place(place) {
         marks[end_of(net, place)] = place as u64;
         place -= 1;
     }

@@ -1,7 +1,7 @@
 // The ranges of a file's numbers: for each kind of record, the least and the largest value of each field.
 ghost use mathlib.Core.Path.{_≡_};
 ghost use mathlib.Core.List.{[]};
-ghost use Prim.Native.Nat.{ℕ, _<_};
+ghost use Prim.Native.Nat.{_<_};
 ghost use lib.ListN.{getD};
 ghost use Rattle.model.specs.Ranges.{rows, inRange, largestOf, _to_};
 use model::Largest;

@@ -1,6 +1,7 @@
 // The reader of a network file: its bytes to numbers, with the refusals 1 to 3.
 ghost use mathlib.Core.Path.{_≡_};
-ghost use Prim.Native.Nat.{_≤_};
+ghost use mathlib.Core.Bool.{true, false};
+ghost use Prim.Native.Nat.{_≤_, _<_};
 ghost use lib.ListN.{length, drop};
 ghost use Rattle.model.specs.Format.{recordsOf};
 ghost use Rattle.model.specs.Network.{value, headOf, readAfterHead, readFile, networkOf, placeOf, comesAfter, wellPlaced};
@@ -142,11 +143,18 @@ fn read_file(file: &[u8], net: &mut [u64]) -> ReadAnswer
     }
 }
 
+// Whether a file has too many bytes.
+fn too_long(bytes: usize) -> bool
+    ensures { λ r. ⌜ (r ≡ true → 32768 < bytes) × (r ≡ false → bytes ≤ 32768) ⌝ }
+{
+    32768 < bytes
+}
+
 // Reads a network file into the buffer, or says why it is refused: for its length, then record by record.
 pub fn read(file: &[u8], net: &mut [u64; 5129]) -> ReadAnswer
     ensures { λ r. ⌜ readSays r (now (net .exit)) ≡ networkOf (now (file .entry)) ⌝ }
 {
-    if 32768 < file.len() {
+    if too_long(file.len()) {
         return ReadAnswer::Refused {
             number: 1,
             record: 0,

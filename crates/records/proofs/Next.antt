@@ -93,10 +93,10 @@ module _ (file : List ℕ) (at e : ℕ) (ends : e ≡ at + upTo newline (drop at
         right q = with-values true q
 
 -- what the answer on a record's form says of it
-module _ (t : Bool) (vs : List ℕ) (kind n : ℕ) (fs : List (List ℕ)) (says : formSays t vs ≡ afterLetter (getD letters kind 0) n fs) (many : n ≡ length (getD rows kind [])) where
+module _ (t : Bool) (vs : List ℕ) (kind n : ℕ) (fs : List (List ℕ)) {letter : ℕ} (is : letter ≡ getD letters kind 0) (says : formSays t vs ≡ afterLetter letter n fs) (many : n ≡ length (getD rows kind [])) where
   form-is : formSays t vs ≡ afterLetter (kindAt kind .letter) (length (kindAt kind .ranges)) fs
   unfolding kindAt
-  form-is = says ∙ ap (λ (m : ℕ). afterLetter (getD letters kind 0) m fs) many
+  form-is = says ∙ (λ i. afterLetter (is i) (many i) fs)
 
   pub form-wrong : t ≡ false → none ≡ afterLetter (kindAt kind .letter) (length (kindAt kind .ranges)) fs
   unfolding formSays

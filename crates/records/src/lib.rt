@@ -7,7 +7,7 @@ ghost use Rattle.model.specs.Network.{value, readRecords};
 ghost use mathlib.Core.List.{[]};
 ghost use Rattle.model.specs.Ranges.{rows, allInRange};
 ghost use Rattle.buffer.specs.Buffer.{recordsIn};
-ghost use Rattle.records.specs.Kinds.{kindAt, nextRecord};
+ghost use Rattle.records.specs.Kinds.{letters, kindAt, nextRecord};
 ghost use Rattle.records.specs.Steps.{stepSays, forward, within};
 
 // What was read is right, and the file goes on at a position; or the file is refused.
@@ -35,6 +35,14 @@ fn in_ranges(kind: usize, numbers: &[u64], stations: u64, lines: u64) -> bool
     true
 }
 
+// The letter of a record of a kind.
+fn letter_of(kind: usize) -> u8
+    requires { ⌜ kind < 4 ⌝ }
+    ensures { λ r. ⌜ r ≡ getD letters kind 0 ⌝ }
+{
+    LETTERS[kind]
+}
+
 // Reads the record at a position, record `i` of the file, into `numbers`.
 pub fn read_record(
     file: &[u8],
@@ -56,7 +64,7 @@ pub fn read_record(
             record: i,
         };
     }
-    if !fields::read_form(&file[at..end], LETTERS[kind], numbers) {
+    if !fields::read_form(&file[at..end], letter_of(kind), numbers) {
         return Step::Stopped {
             number: 1,
             record: i,

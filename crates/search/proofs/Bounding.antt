@@ -1,5 +1,5 @@
 -- The defined walk over the later places, by the tests that the table of the bounds decides.
-use Prim.Native.Nat.{ℕ, zero, suc, _+_, _*_, _-_, _≤_, _<_}
+use Prim.Native.Nat.{ℕ, suc, _+_, _-_, _≤_, _<_}
 use mathlib.Core.Path.{_≡_, refl, sym, ap, _∙_}
 use mathlib.Core.Bool.{Bool, true, false}
 use mathlib.Core.Logic.{⊎-elim}
@@ -7,15 +7,14 @@ use mathlib.Core.List.{List, [], _∷_, _++_, map}
 use native.Mathlib.Decide.{decLt}
 use native.Mathlib.Omega.{arith}
 use lib.Dec.{leb}
-use lib.ListN.{length, length-map, getD, drop}
+use lib.ListN.{length}
 use borrow.Author.Tests.{le-leb, lt-leb}
 use Rattle.model.specs.Lists.{numbers}
 use Rattle.model.specs.Network.{Network}
-use Rattle.model.specs.Sets.{placeNumbers, allowed, setTotal, saving}
+use Rattle.model.specs.Sets.{allowed, setTotal, saving}
 use Rattle.model.specs.Walk.{Found, largest, hopeless, extend}
 use Rattle.walks.specs.Runs.{extend-spent, extend-hopeless, extend-allowed, extend-barred, on-true, on-false}
-use Rattle.theory.specs.Sizes.{numbers-length}
-use Rattle.bounds.specs.Bounds.{placesFrom, mostSaved, HoldsBounds}
+use Rattle.bounds.specs.Bounds.{placesFrom, mostSaved}
 use Rattle.search.specs.Walking.{extended, tried, Barren}
 
 module _ (N : Network) (S : List ℕ) where

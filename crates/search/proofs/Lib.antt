@@ -1,4 +1,3 @@
-pub mod Heads
 pub mod Copying
 pub mod Visiting
 pub mod Trying

@@ -58,7 +58,7 @@ fn visit(
     ensures { λ r. ⌜ (length (now (best .exit)) ≡ 16) × Counted (networkIn (now (net .entry))) r × (foundIn r (now (best .exit)) ≡ visited (networkIn (now (net .entry))) (take size (now (set .entry))) (foundIn progress (now (best .entry)))) ⌝ }
 {
     let least = progress.best;
-    if progress.visits == net[7] {
+    if progress.visits == buffer::visits(net) {
         return Progress {
             best: least,
             count: progress.count,
@@ -88,12 +88,12 @@ fn visit(
 fn within_means(net: &[u64; 5129], cost: u64, hours: u64) -> bool
     ensures { λ r. ⌜ r ≡ (leb cost (networkIn (now (net .entry)) .head .money) && leb hours (networkIn (now (net .entry)) .head .hours)) ⌝ }
 {
-    cost <= net[5] && hours <= net[6]
+    cost <= buffer::money(net) && hours <= buffer::hours(net)
 }
 
 // The cost of the set with one more place.
 fn cost_with(net: &[u64; 5129], current: Current, place: usize) -> u64
-    requires { ⌜ PlaceThere (now net) place × Read (networkIn (now net)) × (current .cost ≤ networkIn (now net) .head .money) ⌝ }
+    requires { ⌜ PlaceThere (now net) place × Read (networkIn (now net)) × (current .cost ≤ networkIn (now net) .head .money) × (current .hours ≤ networkIn (now net) .head .hours) ⌝ }
     ensures { λ r. ⌜ r ≡ current .cost + placeAt (networkIn (now (net .entry))) place .cost ⌝ }
 {
     current.cost + buffer::place_cost(net, place)
@@ -101,7 +101,7 @@ fn cost_with(net: &[u64; 5129], current: Current, place: usize) -> u64
 
 // The hours of the set with one more place.
 fn hours_with(net: &[u64; 5129], current: Current, place: usize) -> u64
-    requires { ⌜ PlaceThere (now net) place × Read (networkIn (now net)) × (current .hours ≤ networkIn (now net) .head .hours) ⌝ }
+    requires { ⌜ PlaceThere (now net) place × Read (networkIn (now net)) × (current .cost ≤ networkIn (now net) .head .money) × (current .hours ≤ networkIn (now net) .head .hours) ⌝ }
     ensures { λ r. ⌜ r ≡ current .hours + placeAt (networkIn (now (net .entry))) place .hours ⌝ }
 {
     current.hours + buffer::place_hours(net, place)
@@ -121,7 +121,7 @@ fn may_get(
     ensures { λ r. ⌜ r ≡ allowed (networkIn (now (net .entry))) (take (current .size) (now (set .entry)) ++ (place ∷ [])) ⌝ }
 {
     let worst = prospects::worst_of(net, relations, level, set, current.size, by, place);
-    if net[3] <= worst {
+    if buffer::series(net) <= worst {
         return false;
     }
     let cost = cost_with(net, current, place);
@@ -221,6 +221,37 @@ fn next_place(
     place
 }
 
+// The next place after `place` that the set may get, unless the set is not to be extended from there on.
+fn next_after(
+    net: &[u64; 5129],
+    relations: &[u64; 4225],
+    bounds: &[u64; 1105],
+    level: &[u64; 195],
+    set: &[u64; 16],
+    current: Current,
+    by: usize,
+    place: usize,
+    left: usize,
+    found: Progress,
+) -> usize
+    requires { ⌜ Seeking (networkIn (now net)) (now relations) (now bounds) (now level) (now set) current by (place + 1) left found ⌝ }
+    ensures { λ r. ⌜ Sought (networkIn (now (net .entry))) (take (current .size) (now (set .entry))) (current .total .0) (place + 1) left found r ⌝ }
+{
+    let from = place + 1;
+    next_place(
+        net,
+        relations,
+        bounds,
+        level,
+        set,
+        current,
+        by,
+        from,
+        left,
+        found,
+    )
+}
+
 // Extends the current set, which may get `left` more places, by each of the places from `from` on in rising order.
 fn extend(
     net: &[u64; 5129],
@@ -280,8 +311,7 @@ fn extend(
                 found,
             );
         }
-        let after = place + 1;
-        place = next_place(
+        place = next_after(
             net,
             relations,
             bounds,
@@ -289,7 +319,7 @@ fn extend(
             set,
             current,
             by,
-            after,
+            place,
             left,
             found,
         );
@@ -343,7 +373,7 @@ pub fn walk(
             hours: 0,
         },
         1,
-        net[4] as usize,
+        buffer::adds(net),
         first,
     )
 }

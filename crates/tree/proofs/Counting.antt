@@ -8,7 +8,7 @@ use native.Mathlib.Decide.{ℕ-discrete}
 use native.Mathlib.Omega.{arith}
 use lib.ListN.{length, getD, set}
 use lib.Seq.{getD-set-same, getD-set-other}
-use Rattle.model.specs.Network.{Network, headOf}
+use Rattle.model.specs.Network.{Network}
 use Rattle.model.specs.Paths.{Vertex, station, line, End, isBreaker, stationAt, isHV}
 use Rattle.model.specs.Rules.{breakersOn, seriesBroken}
 use Rattle.model.specs.Outage.{pathToHV}
@@ -18,16 +18,10 @@ use Rattle.theory.specs.Ends.{breaker-closed, closed-end}
 use Rattle.theory.specs.Radial.{Rules, In, station-in}
 use Rattle.theory.specs.Above.{breakers-count, series-above}
 use Rattle.theory.specs.Behind.{far, side-of}
-use Rattle.buffer.specs.Buffer.{networkIn}
 use Rattle.buffer.specs.Fits.{endIn}
 use Rattle.tree.specs.Outwards.{nearEnd, feeder, Outwards}
 use Rattle.tree.specs.Counts.{pathBreakers, Fed}
 use Rattle.tree.proofs.Near.{NearEnd, FarEnd, feeder-none, feeder-is, near-end, hv-path, far-end, far-first}
-
--- where the limit of the series rule stands
-pub series-at : (b : List ℕ) → getD b 3 0 ≡ networkIn b .head .series
-unfolding networkIn headOf
-series-at b = refl
 
 -- 1 for a breaker
 abbrev pub breaker : Network → End → ℕ

@@ -220,7 +220,7 @@ pub fn over_series(
     requires { ⌜ Read (networkIn (now net)) × Rules (networkIn (now net)) × Outwards (networkIn (now net)) (now near) (now feed) (now order) ⌝ }
     ensures { λ r. ⌜ r ≡ seriesBroken (networkIn (now (net .entry))) ⌝ }
 {
-    let series = net[3];
+    let series = buffer::series(net);
     let mut counts = no_counts();
     for i in 0..buffer::lines(net) {
         let line = order[i] as usize;

@@ -13,7 +13,7 @@ use Rattle.engine.proofs.report_network.Reads as report-network-reads
 use Rattle.loading.proofs.stations_space.Reads as stations-space-reads
 
 returns : tie.Need-returns
-returns c = short-refused (c .before .before .before .args .file .now) (c .before .before .before .args .text .now) (c .if1 .taken)
+returns c = short-refused (c .before .before .before .before .args .file .now) (c .before .before .before .before .args .text .now) (c .before .short-text .ensures .0 (c .if1 .taken))
 
 net-space-requires : tie.Need-net-space-requires
 net-space-requires c κs = search needs
@@ -47,14 +47,14 @@ report-network-requires c κs =
     let d = c .before .before .before .before .before .before .before .before .before in
     let i = d .before .before .before .before .before .before .before .before .before .before .before .before .before in
     let e = c .before .before .before .before .before .before .before .enum-told .given .1 in
-    (accepted-holds (i .before .before .before .args .file .now) (d .load .last .1 .0) (d .load .result) (d .load .ensures .0) e, d .load .ensures .1 e, i .if1 .left)
+    (accepted-holds (i .before .before .before .before .args .file .now) (d .load .last .1 .0) (d .load .result) (d .load .ensures .0) e, d .load .ensures .1 e, i .before .short-text .ensures .1 (i .if1 .left))
 
 returns-2 : tie.Need-returns-2
 returns-2 c =
     let d = c .before .before .before in
     let i = d .before .before .before .before .before .before .before .before .before .before .before .before .before in
-    let a = i .before .before .before .args in
-    file-refused (a .file .now) (a .text .now) (i .if1 .left) (d .load .last .1 .0) (d .load .result) (d .load .ensures .0) (c .before .number .given .1)
+    let a = i .before .before .before .before .args in
+    file-refused (a .file .now) (a .text .now) (i .before .short-text .ensures .1 (i .if1 .left)) (d .load .last .1 .0) (d .load .result) (d .load .ensures .0) (c .before .number .given .1)
 
 same-length : tie.Need-same-length
 same-length c = search needs
@@ -65,13 +65,14 @@ returns-3 c =
     let k = c .before .before .before .before .before .before .before .before .before .before in
     let d = k .before .before in
     let i = d .before .before .before .before .before .before .before .before .before .before .before .before .before in
-    let a = i .before .before .before .args in
-    file-reported (a .file .now) (a .text .now) (i .if1 .left) (d .load .last .1 .0) (d .load .result) (d .load .ensures .0) (n .result) _ (k .enum-told .given .1) (n .ensures .0) (n .ensures .1)
+    let a = i .before .before .before .before .args in
+    file-reported (a .file .now) (a .text .now) (i .before .short-text .ensures .1 (i .if1 .left)) (d .load .last .1 .0) (d .load .result) (d .load .ensures .0) (n .result) _ (k .enum-told .given .1) (n .ensures .0) (n .ensures .1)
 
 pub report-spec : {M : Type 1} → statement M
 report-spec =
     tie.close
     (tie.spec
+    (search needs)
     returns
     net-space-requires
     stations-space-requires

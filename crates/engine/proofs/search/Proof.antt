@@ -1,5 +1,4 @@
 use mathlib.Core.Path.{_≡_, sym, subst}
-use native.Mathlib.Omega.{arith}
 use Rattle.engine.specs.Found.{fileFound, foundBy, AtMost16}
 use Rattle.engine.proofs.Calling.{Claims, short-refused, file-refused, file-finished, file-spent}
 use borrow.Author.Needs.{needs}
@@ -11,7 +10,7 @@ use Rattle.engine.proofs.load_search.Reads as load-search-reads
 use Rattle.engine.proofs.put_members.Reads as put-members-reads
 
 returns : tie.Need-returns
-returns c = short-refused (c .before .before .before .args .file .now) (c .before .before .before .args .members .now) (c .if1 .taken)
+returns c = short-refused (c .before .before .before .before .args .file .now) (c .before .before .before .before .args .members .now) (c .before .short-members .ensures .0 (c .if1 .taken))
 
 load-search-requires : tie.Need-load-search-requires
 load-search-requires c κs = search needs
@@ -26,7 +25,7 @@ put-members-requires : tie.Need-put-members-requires
 unfolding AtMost16
 put-members-requires c κs =
     let l = c .before .before .before .before .before in
-    (l .load-search .ensures .2, subst AtMost16 (c .before .before .before .answer .given .1) (l .load-search .ensures .1), l .before .before .if1 .left)
+    (l .load-search .ensures .2, subst AtMost16 (c .before .before .before .answer .given .1) (l .load-search .ensures .1), l .before .before .before .short-members .ensures .1 (l .before .before .if1 .left))
 
 enum-known-answer-2 : tie.Need-enum-known-answer-2
 enum-known-answer-2 c = search needs
@@ -35,15 +34,15 @@ put-members-requires-2 : tie.Need-put-members-requires-2
 unfolding AtMost16
 put-members-requires-2 c κs =
     let l = c .before .before .before .before .before in
-    (l .load-search .ensures .2, subst AtMost16 (c .before .before .before .answer2 .given .1) (l .load-search .ensures .1), l .before .before .if1 .left)
+    (l .load-search .ensures .2, subst AtMost16 (c .before .before .before .answer2 .given .1) (l .load-search .ensures .1), l .before .before .before .short-members .ensures .1 (l .before .before .if1 .left))
 
 returns-2 : tie.Need-returns-2
 returns-2 c =
     let l = c .before .before in
-    let a = l .before .before .before .before .before .args in
+    let a = l .before .before .before .before .before .before .args in
     let e = c .enum-told .given .1 in
     subst (λ r. Claims (a .file .now) (a .members .now) r (a .members .now)) (sym e)
-    (file-refused (a .file .now) (a .members .now) (l .before .before .if1 .left) _ _ (l .load-search .last .1 .0) (subst (λ r. foundBy r (l .load-search .last .1 .0) ≡ fileFound (a .file .now)) e (l .load-search .ensures .0)))
+    (file-refused (a .file .now) (a .members .now) (l .before .before .before .short-members .ensures .1 (l .before .before .if1 .left)) _ _ (l .load-search .last .1 .0) (subst (λ r. foundBy r (l .load-search .last .1 .0) ≡ fileFound (a .file .now)) e (l .load-search .ensures .0)))
 
 same-length : tie.Need-same-length
 same-length c = search needs
@@ -51,10 +50,10 @@ same-length c = search needs
 returns-3 : tie.Need-returns-3
 returns-3 c =
     let l = c .before .before .before .before .before .before .before .before in
-    let a = l .before .before .before .before .before .args in
+    let a = l .before .before .before .before .before .before .args in
     let g = c .before .before .before .before .before .before .answer .given in
     let best = l .load-search .last .1 .0 in
-    file-finished (a .file .now) (a .members .now) (l .before .before .if1 .left) (g .0 .0) (g .0 .1 .0) (g .0 .1 .1 .0) best _
+    file-finished (a .file .now) (a .members .now) (l .before .before .before .short-members .ensures .1 (l .before .before .if1 .left)) (g .0 .0) (g .0 .1 .0) (g .0 .1 .1 .0) best _
     (subst AtMost16 (g .1) (l .load-search .ensures .1)) (l .load-search .ensures .2) (c .before .before .put-members .ensures) (subst (λ r. foundBy r best ≡ fileFound (a .file .now)) (g .1) (l .load-search .ensures .0))
 
 same-length-2 : tie.Need-same-length-2
@@ -63,16 +62,17 @@ same-length-2 c = search needs
 returns-4 : tie.Need-returns-4
 returns-4 c =
     let l = c .before .before .before .before .before .before .before .before in
-    let a = l .before .before .before .before .before .args in
+    let a = l .before .before .before .before .before .before .args in
     let g = c .before .before .before .before .before .before .answer2 .given in
     let best = l .load-search .last .1 .0 in
-    file-spent (a .file .now) (a .members .now) (l .before .before .if1 .left) (g .0 .0) (g .0 .1 .0) (g .0 .1 .1 .0) best _
+    file-spent (a .file .now) (a .members .now) (l .before .before .before .short-members .ensures .1 (l .before .before .if1 .left)) (g .0 .0) (g .0 .1 .0) (g .0 .1 .1 .0) best _
     (subst AtMost16 (g .1) (l .load-search .ensures .1)) (l .load-search .ensures .2) (c .before .before .put-members2 .ensures) (subst (λ r. foundBy r best ≡ fileFound (a .file .now)) (g .1) (l .load-search .ensures .0))
 
 pub search-spec : {M : Type 1} → statement M
 search-spec =
     tie.close
     (tie.spec
+    (search needs)
     returns
     load-search-requires
     enum-told

@@ -1,38 +1,27 @@
-use Prim.Native.Nat.{ℕ, _≤_}
-use mathlib.Core.Path.{_≡_, sym, _∙_}
-use mathlib.Core.Bool.{Bool, false}
-use mathlib.Core.List.{List}
-use lib.Dec.{ltb}
-use lib.ListN.{length}
-use borrow.Author.Tests.{ltb-true, ltb-false}
 use borrow.Author.Needs.{needs}
 use Rattle.loading.proofs.Loads.{accepted-holds}
 use Rattle.engine.proofs.Tabling.{short-refused, file-refused, file-tabled}
 use Rattle.engine.proofs.segments.Statement.{statement}
 use Rattle.engine.proofs.segments.Tie as tie
 
--- a table that is not too short
-long : (table : List ℕ) {b : Bool} → b ≡ ltb (length table) 7680 → b ≡ false → 7680 ≤ length table
-long table e h = ltb-false (length table) 7680 (sym e ∙ h)
-
 returns : tie.Need-returns
 returns c =
     let a = c .before .before .before .before .args in
-    short-refused (a .file .now) (a .table .now) (ltb-true (length (a .table .now)) 7680 (sym (c .before .short-table .ensures) ∙ c .if1 .taken))
+    short-refused (a .file .now) (a .table .now) (c .before .short-table .ensures .0 (c .if1 .taken))
 
 table-network-requires : tie.Need-table-network-requires
 table-network-requires c κs =
     let d = c .before .before .before .before .before .before .before .before .before in
     let i = d .before .before .before .before .before .before .before .before .before .before .before .before .before in
     let e = c .before .before .before .before .before .before .before .enum-told .given .1 in
-    (accepted-holds (i .before .before .before .before .args .file .now) (d .load .last .1 .0) (d .load .result) (d .load .ensures .0) e, d .load .ensures .1 e, long (i .before .before .before .before .args .table .now) (i .before .short-table .ensures) (i .if1 .left))
+    (accepted-holds (i .before .before .before .before .args .file .now) (d .load .last .1 .0) (d .load .result) (d .load .ensures .0) e, d .load .ensures .1 e, i .before .short-table .ensures .1 (i .if1 .left))
 
 returns-2 : tie.Need-returns-2
 returns-2 c =
     let d = c .before .before .before in
     let i = d .before .before .before .before .before .before .before .before .before .before .before .before .before in
     let a = i .before .before .before .before .args in
-    file-refused (a .file .now) (a .table .now) (long (a .table .now) (i .before .short-table .ensures) (i .if1 .left)) (d .load .last .1 .0) (d .load .result) (d .load .ensures .0) (c .before .number .given .1)
+    file-refused (a .file .now) (a .table .now) (i .before .short-table .ensures .1 (i .if1 .left)) (d .load .last .1 .0) (d .load .result) (d .load .ensures .0) (c .before .number .given .1)
 
 returns-3 : tie.Need-returns-3
 returns-3 c =
@@ -41,7 +30,7 @@ returns-3 c =
     let d = k .before .before in
     let i = d .before .before .before .before .before .before .before .before .before .before .before .before .before in
     let a = i .before .before .before .before .args in
-    file-tabled (a .file .now) (a .table .now) (long (a .table .now) (i .before .short-table .ensures) (i .if1 .left)) (d .load .last .1 .0) (d .load .result) (d .load .ensures .0) (n .result) _ (k .enum-told .given .1) (n .ensures .0) (n .ensures .1)
+    file-tabled (a .file .now) (a .table .now) (i .before .short-table .ensures .1 (i .if1 .left)) (d .load .last .1 .0) (d .load .result) (d .load .ensures .0) (n .result) _ (k .enum-told .given .1) (n .ensures .0) (n .ensures .1)
 
 pub segments-spec : {M : Type 1} → statement M
 segments-spec =

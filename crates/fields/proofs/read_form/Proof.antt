@@ -17,8 +17,8 @@ Inv-loop bytes letter out₀ at₀ k₀ k-end out at k =
 abbrev μ-loop : tie.MeasureT-loop
 μ-loop bytes letter out₀ at₀ k₀ k-end out at k = k-end - k
 
-part-end-requires : tie.Need-part-end-requires Inv-loop μ-loop
-part-end-requires c κs = search needs
+field-end-requires : tie.Need-field-end-requires Inv-loop μ-loop
+field-end-requires c κs = search needs
 
 returns : tie.Need-returns Inv-loop μ-loop
 unfolding formSays
@@ -42,7 +42,7 @@ loop-holds c =
       refl,
       omega arith,
       omega arith,
-      ap (onFrom (a .bytes .now) (a .out .now) 0 (length (a .out .now))) {x = c .before .before .before .part-end .result} {y = 1} (omega arith)
+      ap (onFrom (a .bytes .now) (a .out .now) 0 (length (a .out .now))) {x = c .before .before .before .field-end .result} {y = 1} (omega arith)
           ∙ letter-right (a .letter) (length (a .out .now)) (a .bytes .now) (a .out .now) (omega arith) (omega arith) (c .if2 .left),
     )
 
@@ -58,8 +58,8 @@ returns-3 c =
 add-from : tie.Need-add-from Inv-loop μ-loop
 add-from c = search needs
 
-part-end-requires-2 : tie.Need-part-end-requires-2 Inv-loop μ-loop
-part-end-requires-2 c κs = search needs
+field-end-requires-2 : tie.Need-field-end-requires-2 Inv-loop μ-loop
+field-end-requires-2 c κs = search needs
 
 sub-read-number : tie.Need-sub-read-number Inv-loop μ-loop
 sub-read-number c = search needs
@@ -83,7 +83,7 @@ returns-4 : tie.Need-returns-4 Inv-loop μ-loop
 unfolding formSays numberSays
 returns-4 c =
     let l = c .before .before .before .before .before .before .before .loop in
-    sym (bad-field (c .before .before .before .before .before .before .before .before .before .before .before .before .before .before .args .bytes .now) (l .out) (l .k) _ (l .at) (c .before .before .before .before .part-end2 .result) (omega arith) (omega arith) (omega arith)
+    sym (bad-field (c .before .before .before .before .before .before .before .before .before .before .before .before .before .before .args .bytes .now) (l .out) (l .k) _ (l .at) (c .before .before .before .before .field-end2 .result) (omega arith) (omega arith) (omega arith)
     (sym (c .before .before .read-number .ensures) ∙ ap numberSays (c .enum-told .given .1)))
     ∙ l .inv .4
 
@@ -110,7 +110,7 @@ loop-again c =
       simp length-set (l .inv .1),
       omega arith,
       omega arith,
-      sym (next-field (c .before .before .before .before .before .before .before .before .before .before .before .before .before .before .before .args .bytes .now) (l .out) (l .k) _ (l .at) (c .before .before .before .before .before .part-end2 .result) (omega arith) (omega arith) (omega arith)
+      sym (next-field (c .before .before .before .before .before .before .before .before .before .before .before .before .before .before .before .args .bytes .now) (l .out) (l .k) _ (l .at) (c .before .before .before .before .before .field-end2 .result) (omega arith) (omega arith) (omega arith)
           _ (omega arith) (sym (c .before .before .before .read-number .ensures) ∙ ap numberSays (c .before .number .given .1)))
           ∙ l .inv .4,
     )
@@ -129,7 +129,7 @@ read-form-spec =
     (tie.spec
     Inv-loop
     μ-loop
-    part-end-requires
+    field-end-requires
     returns
     shared-slice-read-if2
     returns-2
@@ -137,7 +137,7 @@ read-form-spec =
     same-length
     returns-3
     add-from
-    part-end-requires-2
+    field-end-requires-2
     sub-read-number
     part-read-number-start
     part-read-number-end

@@ -18,27 +18,29 @@ abbrev μ-loop : tie.MeasureT-loop
 
 returns : tie.Need-returns Inv-loop μ-loop
 unfolding numberSays
-returns c = empty (c .before .args .field .now) (c .if1 .taken)
+returns c = empty (c .before .before .before .args .field .now) (omega (arith, c .before .is-empty .ensures .0 (c .if1 .taken)))
 
 returns-2 : tie.Need-returns-2 Inv-loop μ-loop
 unfolding numberSays
-returns-2 c = long (c .before .before .args .field .now) (c .if2 .taken)
+returns-2 c = long (c .before .before .before .before .before .args .field .now) (c .before .many-digits .ensures .0 (c .if2 .taken))
 
 shared-slice-read-if4 : tie.Need-shared-slice-read-if4 Inv-loop μ-loop
 shared-slice-read-if4 c = search needs
 
 returns-3 : tie.Need-returns-3 Inv-loop μ-loop
 unfolding numberSays
-returns-3 c = zero-first (c .before .before .before .before .before .args .field .now) (omega arith) (c .if4 .taken)
+returns-3 c = zero-first (c .before .before .before .before .before .before .before .before .args .field .now) (omega arith) (c .if4 .taken)
 
 loop-holds : tie.Need-loop-holds Inv-loop μ-loop
-loop-holds c = (
-  refl,
-  omega arith,
-  omega arith,
-  omega arith,
-  starts (c .before .before .before .args .field .now) (c .before .before .if1 .left) (omega arith) (⊎-elim (λ w. inl (w .2 .left)) (λ w. inr (w .left)) (c .if3 .came)),
-)
+loop-holds c =
+    let few = c .before .before .many-digits .ensures .1 (c .before .if2 .left) in
+    let some = c .before .before .before .before .is-empty .ensures .1 (c .before .before .before .if1 .left) in (
+      refl,
+      omega (arith, few),
+      omega arith,
+      omega arith,
+      starts (c .before .before .before .before .before .before .args .field .now) (λ e. omega (arith, e, some)) (omega (arith, few)) (⊎-elim (λ w. inl (w .2 .left)) (λ w. inr (w .left)) (c .if3 .came)),
+    )
 
 shared-slice-read-d : tie.Need-shared-slice-read-d Inv-loop μ-loop
 shared-slice-read-d c = search needs
@@ -47,13 +49,13 @@ returns-4 : tie.Need-returns-4 Inv-loop μ-loop
 unfolding numberSays
 returns-4 c =
     let l = c .before .before .before .loop in
-    sym (low (c .before .before .before .before .before .before .before .args .field .now) (l .v) (l .i) (omega arith) (c .if5 .taken)) ∙ l .inv .4
+    sym (low (c .before .before .before .before .before .before .before .before .before .before .args .field .now) (l .v) (l .i) (omega arith) (c .if5 .taken)) ∙ l .inv .4
 
 returns-5 : tie.Need-returns-5 Inv-loop μ-loop
 unfolding numberSays
 returns-5 c =
     let l = c .before .before .before .before .loop in
-    sym (high (c .before .before .before .before .before .before .before .before .args .field .now) (l .v) (l .i) (omega arith) (c .if6 .taken)) ∙ l .inv .4
+    sym (high (c .before .before .before .before .before .before .before .before .before .before .before .args .field .now) (l .v) (l .i) (omega arith) (c .if6 .taken)) ∙ l .inv .4
 
 mul-v : tie.Need-mul-v Inv-loop μ-loop
 mul-v c = omega (arith, below-ten-digits (c .before .before .before .before .loop .i) (omega arith))
@@ -80,14 +82,14 @@ loop-again c =
       omega arith,
       omega arith,
       omega (arith, tens (l .i)),
-      sym (more (c .before .before .before .before .before .before .before .before .args .field .now) (l .v) (l .i) (omega arith) (c .before .if5 .left) (c .if6 .left)) ∙ l .inv .4,
+      sym (more (c .before .before .before .before .before .before .before .before .before .before .before .args .field .now) (l .v) (l .i) (omega arith) (c .before .if5 .left) (c .if6 .left)) ∙ l .inv .4,
     )
 
 returns-6 : tie.Need-returns-6 Inv-loop μ-loop
 unfolding numberSays
 returns-6 c =
     let l = c .before .loop in
-    sym (ended (c .before .before .before .before .before .args .field .now) (l .v) (l .i) (omega arith)) ∙ l .inv .4
+    sym (ended (c .before .before .before .before .before .before .before .before .args .field .now) (l .v) (l .i) (omega arith)) ∙ l .inv .4
 
 pub read-number-spec : {M : Type 1} → statement M
 read-number-spec =
@@ -95,7 +97,9 @@ read-number-spec =
     (tie.spec
     Inv-loop
     μ-loop
+    (search needs)
     returns
+    (search needs)
     returns-2
     shared-slice-read-if4
     returns-3

@@ -1,58 +1,47 @@
-use Prim.Native.Nat.{ℕ}
 use mathlib.Core.Path.{sym, _∙_}
 use native.Mathlib.Omega.{arith}
 use Rattle.buffer.specs.Buffer.{networkIn}
-use Rattle.loading.proofs.Turns.{openLine-most, plainLine-most, unsuppliedStation-most, says-4, says-5, says-6, says-7, says-8, says-accepted}
+use Rattle.loading.proofs.Turns.{open-small, plain-small, unsupplied-small, says-4, says-5, says-6, says-7, says-8, says-accepted}
 use borrow.Author.Needs.{needs}
 use Rattle.loading.proofs.forest_rules.Statement.{statement}
 use Rattle.loading.proofs.forest_rules.Tie as tie
 use Rattle.loading.proofs.forest_rules.Reads as reads
 use Rattle.loading.proofs.forest_rules.Lts as lts
-use Rattle.buffer.proofs.stations.Reads as stations-reads
 use Rattle.loading.proofs.stations_space.Reads as stations-space-reads
+use Rattle.loading.proofs.line_record.Reads as line-record-reads
+use Rattle.loading.proofs.station_record.Reads as station-record-reads
 use Rattle.radial.proofs.hv_joined.Reads as hv-joined-reads
 use Rattle.radial.proofs.open_line.Reads as open-line-reads
 use Rattle.radial.proofs.path_returns.Reads as path-returns-reads
 use Rattle.radial.proofs.plain_at_hv.Reads as plain-at-hv-reads
 use Rattle.radial.proofs.unsupplied.Reads as unsupplied-reads
 
-stations-requires : tie.Need-stations-requires
-stations-requires c κs = search needs
-
 open-line-requires : tie.Need-open-line-requires
 open-line-requires c κs = search needs
 
-add-t9 : tie.Need-add-t9
-add-t9 c = search needs
-
-add-t10 : tie.Need-add-t10
-add-t10 c =
+line-record-requires : tie.Need-line-record-requires
+line-record-requires c κs =
     let a2 = c .before in
-    let d = a2 .before .before .pre in
-    omega (arith, a2 .before .stations .ensures, a2 .open-line .ensures, openLine-most (networkIn (a2 .before .before .args .net .now)), d .stationCount, d .head .stations .high, d .lineCount, d .head .lines .high)
+    (a2 .before .pre, open-small (networkIn (a2 .before .args .net .now)) (a2 .before .pre) (a2 .open-line .ensures))
 
 returns : tie.Need-returns
 returns c =
-    let a2 = c .before in let net = a2 .before .before .args .net .now in let n = a2 .before .stations .result in let o = a2 .open-line .result in
-    says-4 (networkIn net) n o (a2 .before .stations .ensures) (a2 .open-line .ensures) (c .if1 .taken)
+    let a2 = c .before .before in let net = a2 .before .args .net .now in let o = a2 .open-line .result in
+    says-4 (networkIn net) o (a2 .open-line .ensures) (c .line-record .ensures) (c .before .if1 .taken)
 
 plain-at-hv-requires : tie.Need-plain-at-hv-requires
 plain-at-hv-requires c κs = search needs
 
-add-t11 : tie.Need-add-t11
-add-t11 c = search needs
-
-add-t12 : tie.Need-add-t12
-add-t12 c =
+line-record-requires-2 : tie.Need-line-record-requires-2
+line-record-requires-2 c κs =
     let a3 = c .before in
     let a2 = a3 .before .before in
-    let d = a2 .before .before .pre in
-    omega (arith, a2 .before .stations .ensures, a3 .plain-at-hv .ensures, plainLine-most (networkIn (a2 .before .before .args .net .now)), d .stationCount, d .head .stations .high, d .lineCount, d .head .lines .high)
+    (a2 .before .pre, plain-small (networkIn (a2 .before .args .net .now)) (a2 .before .pre) (a3 .plain-at-hv .ensures))
 
 returns-2 : tie.Need-returns-2
 returns-2 c =
-    let a3 = c .before in let a2 = a3 .before .before in let net = a2 .before .before .args .net .now in let n = a2 .before .stations .result in let o = a2 .open-line .result in
-    says-5 (networkIn net) n o (a2 .before .stations .ensures) (a2 .open-line .ensures) (a3 .before .if1 .left) (a3 .plain-at-hv .result) (a3 .plain-at-hv .ensures) (c .if2 .taken)
+    let a3 = c .before .before in let a2 = a3 .before .before in let net = a2 .before .args .net .now in let o = a2 .open-line .result in
+    says-5 (networkIn net) o (a2 .open-line .ensures) (a3 .before .if1 .left) (a3 .plain-at-hv .result) (a3 .plain-at-hv .ensures) (c .line-record2 .ensures) (c .before .if2 .taken)
 
 stations-space-requires : tie.Need-stations-space-requires
 stations-space-requires c κs = search needs
@@ -62,52 +51,48 @@ path-returns-requires c κs = search needs
 
 returns-3 : tie.Need-returns-3
 returns-3 c =
-    let a4 = c .before in let e2 = a4 .before .before .before in let a3 = e2 .before in let a2 = a3 .before .before in let net = a2 .before .before .args .net .now in let n = a2 .before .stations .result in let o = a2 .open-line .result in
-    says-6 (networkIn net) n o (a2 .before .stations .ensures) (a2 .open-line .ensures) (a3 .before .if1 .left) (a3 .plain-at-hv .result) (a3 .plain-at-hv .ensures) (e2 .if2 .left) (sym (a4 .path-returns .ensures .0) ∙ c .if3 .taken)
+    let a4 = c .before in let e2 = a4 .before .before .before in let a3 = e2 .before in let a2 = a3 .before .before in let net = a2 .before .args .net .now in let o = a2 .open-line .result in
+    says-6 (networkIn net) o (a2 .open-line .ensures) (a3 .before .if1 .left) (a3 .plain-at-hv .result) (a3 .plain-at-hv .ensures) (e2 .if2 .left) (sym (a4 .path-returns .ensures .0) ∙ c .if3 .taken)
 
 hv-joined-requires : tie.Need-hv-joined-requires
 hv-joined-requires c κs =
-    let a4 = c .before .before in let e2 = a4 .before .before .before in let a3 = e2 .before in let a2 = a3 .before .before in let net = a2 .before .before .args .net .now in let n = a2 .before .stations .result in let o = a2 .open-line .result in
-    (a2 .before .before .pre, a4 .path-returns .ensures .1 (c .before .if3 .left))
+    let a4 = c .before .before in let e2 = a4 .before .before .before in let a3 = e2 .before in let a2 = a3 .before .before in let net = a2 .before .args .net .now in let o = a2 .open-line .result in
+    (a2 .before .pre, a4 .path-returns .ensures .1 (c .before .if3 .left))
 
 returns-4 : tie.Need-returns-4
 returns-4 c =
-    let a5 = c .before in let e3 = a5 .before .before in let a4 = e3 .before in let e2 = a4 .before .before .before in let a3 = e2 .before in let a2 = a3 .before .before in let net = a2 .before .before .args .net .now in let n = a2 .before .stations .result in let o = a2 .open-line .result in
-    says-7 (networkIn net) n o (a2 .before .stations .ensures) (a2 .open-line .ensures) (a3 .before .if1 .left) (a3 .plain-at-hv .result) (a3 .plain-at-hv .ensures) (e2 .if2 .left) (sym (a4 .path-returns .ensures .0) ∙ e3 .if3 .left) (sym (a5 .hv-joined .ensures) ∙ c .if4 .taken)
+    let a5 = c .before in let e3 = a5 .before .before in let a4 = e3 .before in let e2 = a4 .before .before .before in let a3 = e2 .before in let a2 = a3 .before .before in let net = a2 .before .args .net .now in let o = a2 .open-line .result in
+    says-7 (networkIn net) o (a2 .open-line .ensures) (a3 .before .if1 .left) (a3 .plain-at-hv .result) (a3 .plain-at-hv .ensures) (e2 .if2 .left) (sym (a4 .path-returns .ensures .0) ∙ e3 .if3 .left) (sym (a5 .hv-joined .ensures) ∙ c .if4 .taken)
 
 unsupplied-requires : tie.Need-unsupplied-requires
 unsupplied-requires c κs =
-    let a5 = c .before .before in let e3 = a5 .before .before in let a4 = e3 .before in let e2 = a4 .before .before .before in let a3 = e2 .before in let a2 = a3 .before .before in let net = a2 .before .before .args .net .now in let n = a2 .before .stations .result in let o = a2 .open-line .result in
-    (a2 .before .before .pre, a4 .path-returns .ensures .1 (e3 .if3 .left))
+    let a5 = c .before .before in let e3 = a5 .before .before in let a4 = e3 .before in let e2 = a4 .before .before .before in let a3 = e2 .before in let a2 = a3 .before .before in let net = a2 .before .args .net .now in let o = a2 .open-line .result in
+    (a2 .before .pre, a4 .path-returns .ensures .1 (e3 .if3 .left))
 
-add-t19 : tie.Need-add-t19
-add-t19 c =
-    let a6 = c .before in let e4 = a6 .before .before in let a5 = e4 .before in let e3 = a5 .before .before in let a4 = e3 .before in let e2 = a4 .before .before .before in let a3 = e2 .before in let a2 = a3 .before .before in let net = a2 .before .before .args .net .now in let n = a2 .before .stations .result in let o = a2 .open-line .result in
-    let d = a2 .before .before .pre in
-    omega (arith, a6 .unsupplied .ensures, unsuppliedStation-most (networkIn net), d .stationCount, d .head .stations .high)
+station-record-requires : tie.Need-station-record-requires
+station-record-requires c κs =
+    let a6 = c .before in let e4 = a6 .before .before in let a5 = e4 .before in let e3 = a5 .before .before in let a4 = e3 .before in let e2 = a4 .before .before .before in let a3 = e2 .before in let a2 = a3 .before .before in let net = a2 .before .args .net .now in
+    unsupplied-small (networkIn net) (a2 .before .pre) (a6 .unsupplied .ensures)
 
 returns-5 : tie.Need-returns-5
 returns-5 c =
-    let a6 = c .before in let e4 = a6 .before .before in let a5 = e4 .before in let e3 = a5 .before .before in let a4 = e3 .before in let e2 = a4 .before .before .before in let a3 = e2 .before in let a2 = a3 .before .before in let net = a2 .before .before .args .net .now in let n = a2 .before .stations .result in let o = a2 .open-line .result in
-    says-8 (networkIn net) n o (a2 .before .stations .ensures) (a2 .open-line .ensures) (a3 .before .if1 .left) (a3 .plain-at-hv .result) (a3 .plain-at-hv .ensures) (e2 .if2 .left) (sym (a4 .path-returns .ensures .0) ∙ e3 .if3 .left) (sym (a5 .hv-joined .ensures) ∙ e4 .if4 .left) (a6 .unsupplied .result) (a6 .unsupplied .ensures) (c .if5 .taken)
+    let a6 = c .before .before in let e4 = a6 .before .before in let a5 = e4 .before in let e3 = a5 .before .before in let a4 = e3 .before in let e2 = a4 .before .before .before in let a3 = e2 .before in let a2 = a3 .before .before in let net = a2 .before .args .net .now in let o = a2 .open-line .result in
+    says-8 (networkIn net) o (a2 .open-line .ensures) (a3 .before .if1 .left) (a3 .plain-at-hv .result) (a3 .plain-at-hv .ensures) (e2 .if2 .left) (sym (a4 .path-returns .ensures .0) ∙ e3 .if3 .left) (sym (a5 .hv-joined .ensures) ∙ e4 .if4 .left) (a6 .unsupplied .result) (a6 .unsupplied .ensures) (c .station-record .ensures) (c .before .if5 .taken)
 
 returns-6 : tie.Need-returns-6
 returns-6 c =
-    let a6 = c .before in let e4 = a6 .before .before in let a5 = e4 .before in let e3 = a5 .before .before in let a4 = e3 .before in let e2 = a4 .before .before .before in let a3 = e2 .before in let a2 = a3 .before .before in let net = a2 .before .before .args .net .now in let n = a2 .before .stations .result in let o = a2 .open-line .result in
-    says-accepted (networkIn net) n o (a2 .before .stations .ensures) (a2 .open-line .ensures) (a3 .before .if1 .left) (a3 .plain-at-hv .result) (a3 .plain-at-hv .ensures) (e2 .if2 .left) (sym (a4 .path-returns .ensures .0) ∙ e3 .if3 .left) (sym (a5 .hv-joined .ensures) ∙ e4 .if4 .left) (a6 .unsupplied .result) (a6 .unsupplied .ensures) (c .if5 .left)
+    let a6 = c .before in let e4 = a6 .before .before in let a5 = e4 .before in let e3 = a5 .before .before in let a4 = e3 .before in let e2 = a4 .before .before .before in let a3 = e2 .before in let a2 = a3 .before .before in let net = a2 .before .args .net .now in let o = a2 .open-line .result in
+    says-accepted (networkIn net) o (a2 .open-line .ensures) (a3 .before .if1 .left) (a3 .plain-at-hv .result) (a3 .plain-at-hv .ensures) (e2 .if2 .left) (sym (a4 .path-returns .ensures .0) ∙ e3 .if3 .left) (sym (a5 .hv-joined .ensures) ∙ e4 .if4 .left) (a6 .unsupplied .result) (a6 .unsupplied .ensures) (c .if5 .left)
 
 pub forest-rules-spec : {M : Type 1} → statement M
 forest-rules-spec =
     tie.close
     (tie.spec
-    stations-requires
     open-line-requires
-    add-t9
-    add-t10
+    line-record-requires
     returns
     plain-at-hv-requires
-    add-t11
-    add-t12
+    line-record-requires-2
     returns-2
     stations-space-requires
     path-returns-requires
@@ -115,6 +100,6 @@ forest-rules-spec =
     hv-joined-requires
     returns-4
     unsupplied-requires
-    add-t19
+    station-record-requires
     returns-5
     returns-6)

@@ -1,4 +1,3 @@
-use mathlib.Core.Path.{sym, _∙_}
 use Rattle.loading.proofs.Turns.{not-accepted}
 use Rattle.loading.proofs.Loads.{read-refused, read-holds, read-rules}
 use borrow.Author.Needs.{needs}

@@ -1,5 +1,4 @@
 use mathlib.Core.Path.{sym, _∙_}
-use Rattle.buffer.specs.Buffer.{networkIn}
 use Rattle.loading.proofs.Turns.{rules-refused, forest-held, series-refused, series-held}
 use borrow.Author.Needs.{needs}
 use Rattle.loading.proofs.rules.Statement.{statement}

@@ -28,7 +28,7 @@ loop-holds c =
     (omega arith, k .ensures .1, subst (MarksAbove N (k .last .0)) (sym (c .places .ensures)) (marks-none N (s .pre) (k .last .0) (k .ensures .0)))
 
 end-of-requires : tie.Need-end-of-requires Inv-loop μ-loop
-end-of-requires c κs = search needs
+end-of-requires c κs = (c .before .before .before .before .before .before .pre, c .before .is-place .ensures .0 (c .if1 .taken), c .before .before .loop .inv .0)
 
 mul-marks : tie.Need-mul-marks Inv-loop μ-loop
 mul-marks c = search needs
@@ -37,22 +37,23 @@ element-write-marks : tie.Need-element-write-marks Inv-loop μ-loop
 element-write-marks c = search needs
 
 sub-place : tie.Need-sub-place Inv-loop μ-loop
-sub-place c = search needs
+sub-place c = omega (arith, c .before .before .is-place .ensures .0 (c .before .if1 .taken))
 
 loop-less : tie.Need-loop-less Inv-loop μ-loop
-loop-less c = search needs
+loop-less c = omega (arith, c .before .before .is-place .ensures .0 (c .before .if1 .taken))
 
 loop-again : tie.Need-loop-again Inv-loop μ-loop
 loop-again c =
-    let s = c .before .before .before .before .before .before in
-    let h = c .before .before .loop in
-    (omega arith, simp length-set (h .inv .1), marks-next (networkIn (s .args .net .now)) (s .pre) (h .marks) (h .place) (c .end-of .result) (omega arith) (omega arith) (c .end-of .ensures .0) (omega (arith, s .pre .head .lines)) (h .inv .2))
+    let s = c .before .before .before .before .before .before .before in
+    let h = c .before .before .before .loop in
+    let low = c .before .before .is-place .ensures .0 (c .before .if1 .taken) in
+    (omega (arith, low), simp length-set (h .inv .1), marks-next (networkIn (s .args .net .now)) (s .pre) (h .marks) (h .place) (c .end-of .result) low (omega arith) (c .end-of .ensures .0) (omega (arith, s .pre .head .lines)) (h .inv .2))
 
 returns : tie.Need-returns Inv-loop μ-loop
 returns c =
-    let s = c .before .before .before .before .before in
-    let h = c .before .loop in
-    marks-all (networkIn (s .args .net .now)) (s .pre) (h .marks) (subst (MarksAbove (networkIn (s .args .net .now)) (h .marks)) {x = h .place} {y = 0} (omega arith) (h .inv .2))
+    let s = c .before .before .before .before .before .before in
+    let h = c .before .before .loop in
+    marks-all (networkIn (s .args .net .now)) (s .pre) (h .marks) (subst (MarksAbove (networkIn (s .args .net .now)) (h .marks)) {x = h .place} {y = 0} (omega (arith, c .before .is-place .ensures .1 (c .if1 .left))) (h .inv .2))
 
 pub fill-places-spec : {M : Type 1} → statement M
 fill-places-spec =
@@ -63,6 +64,7 @@ fill-places-spec =
     no-marks-requires
     places-requires
     loop-holds
+    (search needs)
     end-of-requires
     mul-marks
     element-write-marks

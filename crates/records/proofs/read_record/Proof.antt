@@ -27,8 +27,8 @@ part-read-form-start c = search needs
 part-read-form-end : tie.Need-part-read-form-end
 part-read-form-end c = search needs
 
-array-read-read-form : tie.Need-array-read-read-form
-array-read-read-form c = search needs
+letter-of-requires : tie.Need-letter-of-requires
+letter-of-requires c κs = search needs
 
 read-form-requires : tie.Need-read-form-requires
 read-form-requires c κs = search needs
@@ -37,13 +37,13 @@ same-length : tie.Need-same-length
 same-length c = search needs
 
 returns-2 : tie.Need-returns-2
-unfolding stepSays forward letters
+unfolding stepSays forward
 returns-2 c =
-    let a = c .before .before .before .before .before .before .before .before .before .before .args in
-    let p = c .before .before .before .before .before .before .before .part-end in
+    let a = c .before .before .before .before .before .before .before .before .before .before .before .args in
+    let p = c .before .before .before .before .before .before .before .before .part-end in
     let f = c .before .before .before .read-form in (
       sym (wrong-form (a .file .now) (a .at) (p .result) (p .ensures .0) (a .stations) (a .lines) (a .i) (kindAt (a .kind)) (omega arith) []
-          (form-wrong (f .result) (f .last .1 .1 .0) (a .kind) _ _ (f .ensures) (omega arith) (not-true (f .result) (c .if2 .taken)))),
+          (form-wrong (f .result) (f .last .1 .1 .0) (a .kind) _ _ (c .before .before .before .before .before .letter-of .ensures) (f .ensures) (omega arith) (not-true (f .result) (c .if2 .taken)))),
       tt,
     )
 
@@ -54,14 +54,14 @@ same-length-2 : tie.Need-same-length-2
 same-length-2 c = search needs
 
 returns-3 : tie.Need-returns-3
-unfolding stepSays forward letters kindAt
+unfolding stepSays forward kindAt
 returns-3 c =
-    let a = c .before .before .before .before .before .before .before .before .before .before .before .before .before .args in
-    let p = c .before .before .before .before .before .before .before .before .before .before .part-end in
+    let a = c .before .before .before .before .before .before .before .before .before .before .before .before .before .before .args in
+    let p = c .before .before .before .before .before .before .before .before .before .before .before .part-end in
     let f = c .before .before .before .before .before .before .read-form in
     let r = c .before .in-ranges in (
       sym (wrong-range (a .file .now) (a .at) (p .result) (p .ensures .0) (a .stations) (a .lines) (a .i) (kindAt (a .kind)) (omega arith) (f .last .1 .1 .0)
-          (form-right (f .result) (f .last .1 .1 .0) (a .kind) _ _ (f .ensures) (omega arith) (not-false (f .result) (c .before .before .before .if2 .left)))
+          (form-right (f .result) (f .last .1 .1 .0) (a .kind) _ _ (c .before .before .before .before .before .before .before .before .letter-of .ensures) (f .ensures) (omega arith) (not-false (f .result) (c .before .before .before .if2 .left)))
           (sym (not-true (r .result) (c .if3 .taken)) ∙ r .ensures)),
       tt,
     )
@@ -73,14 +73,14 @@ same-length-3 : tie.Need-same-length-3
 same-length-3 c = search needs
 
 returns-4 : tie.Need-returns-4
-unfolding stepSays forward letters kindAt
+unfolding stepSays forward kindAt
 returns-4 c =
-    let a = c .before .before .before .before .before .before .before .before .before .before .before .before .before .args in
-    let p = c .before .before .before .before .before .before .before .before .before .before .part-end in
+    let a = c .before .before .before .before .before .before .before .before .before .before .before .before .before .before .args in
+    let p = c .before .before .before .before .before .before .before .before .before .before .before .part-end in
     let f = c .before .before .before .before .before .before .read-form in
     let r = c .before .in-ranges in (
       sym (right (a .file .now) (a .at) (p .result) (p .ensures .0) (a .stations) (a .lines) (a .i) (kindAt (a .kind)) (omega arith) (f .last .1 .1 .0)
-          (form-right (f .result) (f .last .1 .1 .0) (a .kind) _ _ (f .ensures) (omega arith) (not-false (f .result) (c .before .before .before .if2 .left)))
+          (form-right (f .result) (f .last .1 .1 .0) (a .kind) _ _ (c .before .before .before .before .before .before .before .before .letter-of .ensures) (f .ensures) (omega arith) (not-false (f .result) (c .before .before .before .if2 .left)))
           (sym (not-false (r .result) (c .if3 .left)) ∙ r .ensures)),
       (omega arith, omega arith),
     )
@@ -94,7 +94,7 @@ read-record-spec =
     sub-read-form
     part-read-form-start
     part-read-form-end
-    array-read-read-form
+    letter-of-requires
     read-form-requires
     same-length
     returns-2

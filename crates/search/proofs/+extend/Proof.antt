@@ -18,6 +18,7 @@ use Rattle.prospects.proofs.enter_once.Reads as enter-once-reads
 use Rattle.search.proofs.goes_deeper.Reads as goes-deeper-reads
 use Rattle.search.proofs.goes_on.Reads as goes-on-reads
 use Rattle.prospects.proofs.leave.Reads as leave-reads
+use Rattle.search.proofs.next_after.Reads as next-after-reads
 use Rattle.search.proofs.next_place.Reads as next-place-reads
 use Rattle.search.proofs.visit.Reads as visit-reads
 use Rattle.search.proofs.with_place.Reads as with-place-reads
@@ -35,7 +36,7 @@ extend-below t = and 10 extend-kinds.ps (falls 10 extend-kinds.ps _<_ μ-extend 
 
 -- what the functions that it calls ask and give
 abbrev extend-calls : ℕ → extend-lts.Claims
-extend-calls t = (next-place-reads.Asked, next-place-reads.Learnt, goes-on-reads.Asked, goes-on-reads.Learnt, with-place-reads.Asked, with-place-reads.Learnt, visit-reads.Asked, visit-reads.Learnt, goes-deeper-reads.Asked, goes-deeper-reads.Learnt, enter-once-reads.Asked, enter-once-reads.Learnt, extend-below t, extend.Post, leave-reads.Asked, leave-reads.Learnt)
+extend-calls t = (next-place-reads.Asked, next-place-reads.Learnt, goes-on-reads.Asked, goes-on-reads.Learnt, with-place-reads.Asked, with-place-reads.Learnt, visit-reads.Asked, visit-reads.Learnt, goes-deeper-reads.Asked, goes-deeper-reads.Learnt, enter-once-reads.Asked, enter-once-reads.Learnt, extend-below t, extend.Post, next-after-reads.Asked, next-after-reads.Learnt, leave-reads.Asked, leave-reads.Learnt)
 
 -- the walk has come to a place, and the set may get it, where it may do better than the best
 abbrev extend-Inv-loop : extend-lts.InvT-loop
@@ -105,9 +106,6 @@ extend-extend-requires t c κs =
     let v = c .before .before .before .before .before .before .before .before .before .before .visit in
     (omega (arith, c .before .before .before .before .before .before .before .before .before .before .before .before .before .before .before .before .before .before .before .before .before .before .pre .0, some x g h), (extending x g h (c .before .before .before .before .before .before .before .before .before .before .before .before .before .before .before .before .before .before .loop .inv .1 h) (c .before .before .before .before .before .before .before .before .before .before .before .before .before .with-place .ensures) (v .result) (v .last .1 .1 .1 .1 .0) (v .ensures .0) (v .ensures .1) (v .ensures .2) (c .before .before .before .before .enter-once .ensures), v .ensures .0, v .ensures .1))
 
-extend-add-after : (t : ℕ) → extend-lts.Need-add-after (extend-calls t) (extend-at t) extend.Post extend-Inv-loop extend-μ-loop
-extend-add-after t c = omega (arith, places-few (c .before .before .before .before .before .before .before .before .before .before .before .before .before .before .pre .1 .0), c .before .before .before .before .before .before .before .before .before .before .loop .inv .0 .within)
-
 -- the set with the place is visited, and extended or not
 extend-on : (t : ℕ) (c : extend-lts.Joined2 (extend-calls t) (extend-at t) extend.Post extend-Inv-loop extend-μ-loop)
     → Going (networkIn (c .before .before .before .before .before .before .before .before .before .before .before .before .before .before .args .net .now)) (c .before .before .before .before .before .before .before .before .before .before .before .before .before .before .args .lists .now) (c .before .before .before .before .before .before .before .before .before .before .before .before .before .before .args .level .now) (c .before .before .before .before .before .before .before .before .before .before .before .before .before .before .args .saved .now) (c .before .before .before .before .before .before .before .before .before .before .before .before .before .before .args .set .now) (c .before .before .before .before .before .before .before .before .before .before .before .before .before .before .args .current) (c .before .before .before .before .before .before .before .before .before .before .before .before .before .before .args .from) (c .before .before .before .before .before .before .before .before .before .before .before .before .before .before .args .left) (foundIn (c .before .before .before .before .before .before .before .before .before .before .before .before .before .before .args .progress) (c .before .before .before .before .before .before .before .before .before .before .before .before .before .before .args .best .now)) (c .before .before .before .before .before .before .before .before .before .before .loop .place + 1) (c .if2 .found) (c .if2 .by) (c .if2 .level) (c .if2 .saved) (c .if2 .set) (c .if2 .best)
@@ -124,14 +122,14 @@ extend-on t c =
     (λ w. rw (w .1, w .2, w .3, w .4, w .5, w .6) (on-barren x g h b n (v .result) (v .last .1 .1 .1 .1 .0) (v .ensures .0) (v .ensures .1) (v .ensures .2) (c .before .goes-deeper .ensures (w .0 .left))))
     (c .if2 .came)
 
-extend-next-place-requires-2 : (t : ℕ) → extend-lts.Need-next-place-requires-2 (extend-calls t) (extend-at t) extend.Post extend-Inv-loop extend-μ-loop
-extend-next-place-requires-2 t c κs = seeking (c .before .before .before .before .before .before .before .before .before .before .before .before .before .before .before .before .pre .1 .0) (extend-on t (c .before .before))
+extend-next-after-requires : (t : ℕ) → extend-lts.Need-next-after-requires (extend-calls t) (extend-at t) extend.Post extend-Inv-loop extend-μ-loop
+extend-next-after-requires t c κs = seeking (c .before .before .before .before .before .before .before .before .before .before .before .before .before .before .before .before .pre .1 .0) (extend-on t (c .before .before))
 
 extend-loop-less : (t : ℕ) → extend-lts.Need-loop-less (extend-calls t) (extend-at t) extend.Post extend-Inv-loop extend-μ-loop
-extend-loop-less t c = omega (arith, c .before .before .before .before .before .before .before .before .before .before .before .before .goes-on .ensures .1 (c .before .before .before .before .before .before .before .before .before .before .before .if1 .taken) .high, c .next-place2 .ensures .low)
+extend-loop-less t c = omega (arith, c .before .before .before .before .before .before .before .before .before .before .before .before .goes-on .ensures .1 (c .before .before .before .before .before .before .before .before .before .before .before .if1 .taken) .high, c .next-after .ensures .low)
 
 extend-loop-again : (t : ℕ) → extend-lts.Need-loop-again (extend-calls t) (extend-at t) extend.Post extend-Inv-loop extend-μ-loop
-extend-loop-again t c = (going-sought (c .before .before .before .before .before .before .before .before .before .before .before .before .before .before .before .before .before .pre .1 .0) (extend-on t (c .before .before .before)) (c .next-place2 .ensures), c .next-place2 .ensures .fitting)
+extend-loop-again t c = (going-sought (c .before .before .before .before .before .before .before .before .before .before .before .before .before .before .before .before .before .pre .1 .0) (extend-on t (c .before .before .before)) (c .next-after .ensures), c .next-after .ensures .fitting)
 
 extend-leave-requires : (t : ℕ) → extend-lts.Need-leave-requires (extend-calls t) (extend-at t) extend.Post extend-Inv-loop extend-μ-loop
 extend-leave-requires t c κs = (c .before .before .before .before .before .before .loop .inv .0 .levelLong, left-few (c .before .before .before .before .before .before .before .before .before .before .pre .1 .0) (c .before .before .before .before .before .before .loop .inv .0) (c .before .before .if3 .taken), left-row (c .before .before .before .before .before .before .before .before .before .before .pre .1 .0) (c .before .before .before .before .before .before .loop .inv .0) (c .before .before .if3 .taken))
@@ -162,8 +160,7 @@ pub +extend-spec : {M : Type 1} → statement M
     (extend-add-extend t)
     (extend-sub-extend t)
     (extend-extend-requires t)
-    (extend-add-after t)
-    (extend-next-place-requires-2 t)
+    (extend-next-after-requires t)
     (extend-loop-less t)
     (extend-loop-again t)
     (extend-leave-requires t)

@@ -11,7 +11,7 @@ place-cost-requires c κs = search needs
 add-result : tie.Need-add-result
 add-result c =
     let d = c .before .before in
-    omega (arith, c .before .place-cost .ensures, place-fits (networkIn (d .args .net .now)) (d .pre .1) (d .args .place) (d .pre .0 .low) (d .pre .0 .high) .cost .high, d .pre .2, d .pre .1 .head .money .high)
+    omega (arith, c .before .place-cost .ensures, place-fits (networkIn (d .args .net .now)) (d .pre .1) (d .args .place) (d .pre .0 .low) (d .pre .0 .high) .cost .high, d .pre .2, d .pre .3, d .pre .1 .head .money .high, d .pre .1 .head .hours .high)
 
 returns : tie.Need-returns
 returns c = search needs

@@ -11,7 +11,7 @@ place-hours-requires c κs = search needs
 add-result : tie.Need-add-result
 add-result c =
     let d = c .before .before in
-    omega (arith, c .before .place-hours .ensures, place-fits (networkIn (d .args .net .now)) (d .pre .1) (d .args .place) (d .pre .0 .low) (d .pre .0 .high) .hours .high, d .pre .2, d .pre .1 .head .hours .high)
+    omega (arith, c .before .place-hours .ensures, place-fits (networkIn (d .args .net .now)) (d .pre .1) (d .args .place) (d .pre .0 .low) (d .pre .0 .high) .hours .high, d .pre .2, d .pre .3, d .pre .1 .head .money .high, d .pre .1 .head .hours .high)
 
 returns : tie.Need-returns
 returns c = search needs

@@ -1,6 +1,5 @@
 use mathlib.Core.Path.{_∙_}
 use native.Mathlib.Omega.{arith}
-use Rattle.search.proofs.Heads.{series-at}
 use Rattle.search.proofs.Trying.{later, too-many, few-enough}
 use borrow.Author.Needs.{needs}
 use Rattle.search.proofs.may_get.Statement.{statement}
@@ -9,11 +8,11 @@ use Rattle.search.proofs.may_get.Tie as tie
 worst-of-requires : tie.Need-worst-of-requires
 worst-of-requires c κs = later (c .pre)
 
-element-copy-out-if1 : tie.Need-element-copy-out-if1
-element-copy-out-if1 c = search needs
+series-requires : tie.Need-series-requires
+series-requires c κs = search needs
 
 returns : tie.Need-returns
-returns c = too-many (c .before .before .before .pre) (c .before .before .worst-of .ensures) (omega (arith, series-at (c .before .before .before .args .net .now), c .if1 .taken))
+returns c = too-many (c .before .before .before .pre) (c .before .before .worst-of .ensures) (omega (arith, c .before .series .ensures, c .if1 .taken))
 
 cost-with-requires : tie.Need-cost-with-requires
 cost-with-requires c κs = search needs
@@ -25,14 +24,14 @@ within-means-requires : tie.Need-within-means-requires
 within-means-requires c κs = search needs
 
 returns-2 : tie.Need-returns-2
-returns-2 c = c .within-means .ensures ∙ few-enough (c .before .before .before .before .before .before .pre) (c .before .before .before .before .before .worst-of .ensures) (c .before .before .cost-with .ensures) (c .before .hours-with .ensures) (omega (arith, series-at (c .before .before .before .before .before .before .args .net .now), c .before .before .before .if1 .left))
+returns-2 c = c .within-means .ensures ∙ few-enough (c .before .before .before .before .before .before .pre) (c .before .before .before .before .before .worst-of .ensures) (c .before .before .cost-with .ensures) (c .before .hours-with .ensures) (omega (arith, c .before .before .before .before .series .ensures, c .before .before .before .if1 .left))
 
 pub may-get-spec : {M : Type 1} → statement M
 may-get-spec =
     tie.close
     (tie.spec
     worst-of-requires
-    element-copy-out-if1
+    series-requires
     returns
     cost-with-requires
     hours-with-requires

@@ -5,14 +5,13 @@ use borrow.Author.Tests.{ltb-true}
 use Rattle.model.specs.Walk.{Found}
 use Rattle.buffer.specs.Buffer.{networkIn}
 use Rattle.search.specs.Walking.{foundIn}
-use Rattle.search.proofs.Heads.{visits-at}
 use Rattle.search.proofs.Visiting.{visit-spent, visit-better, visit-other}
 use borrow.Author.Needs.{needs}
 use Rattle.search.proofs.visit.Statement.{statement}
 use Rattle.search.proofs.visit.Tie as tie
 
-element-copy-out-if1 : tie.Need-element-copy-out-if1
-element-copy-out-if1 c = search needs
+visits-requires : tie.Need-visits-requires
+visits-requires c κs = search needs
 
 returns : tie.Need-returns
 returns c =
@@ -21,7 +20,7 @@ returns c =
     let S = take (d .args .size) (d .args .set .now) in
     let f : Found = foundIn (d .args .progress) (d .args .best .now) in
     let k = d .pre .4 in
-    (d .pre .1, record { best = k .best; count = k .count; visits = k .visits; limit = k .limit }, visit-spent n S f (c .if1 .taken ∙ sym (visits-at (d .args .net .now))))
+    (d .pre .1, record { best = k .best; count = k .count; visits = k .visits; limit = k .limit }, visit-spent n S f (c .if1 .taken ∙ c .before .before .visits .ensures))
 
 add-visits : tie.Need-add-visits
 add-visits c = search needs
@@ -39,7 +38,7 @@ returns-2 c =
     let S = take (d .args .size) (d .args .set .now) in
     let f : Found = foundIn (d .args .progress) (d .args .best .now) in
     let k = c .copy-set in
-    let l : d .args .progress .visits ≡ n .head .visits → ⊥ = λ e. c .before .before .before .before .before .if1 .left (e ∙ visits-at (d .args .net .now)) in
+    let l : d .args .progress .visits ≡ n .head .visits → ⊥ = λ e. c .before .before .before .before .before .if1 .left (e ∙ sym (c .before .before .before .before .before .before .before .visits .ensures)) in
     let b = sym (c .before .before .before .below .ensures) ∙ c .before .before .if2 .taken in
     let less = ltb-true (d .args .total .0) (d .args .progress .best .0) b in (
       k .ensures .0,
@@ -53,10 +52,10 @@ returns-3 c =
     let n = networkIn (d .args .net .now) in
     let S = take (d .args .size) (d .args .set .now) in
     let f : Found = foundIn (d .args .progress) (d .args .best .now) in
-    let l : d .args .progress .visits ≡ n .head .visits → ⊥ = λ e. c .before .before .before .if1 .left (e ∙ visits-at (d .args .net .now)) in
+    let l : d .args .progress .visits ≡ n .head .visits → ⊥ = λ e. c .before .before .before .if1 .left (e ∙ sym (c .before .before .before .before .before .visits .ensures)) in
     (d .pre .1, record { best = d .pre .4 .best; count = d .pre .4 .count; visits = omega arith; limit = d .pre .4 .limit }, visit-other n S f (d .args .total .0) (d .pre .3) l (sym (c .before .below .ensures) ∙ c .if2 .left))
 
 pub visit-spec : {M : Type 1} → statement M
 visit-spec =
     tie.close
-    (tie.spec element-copy-out-if1 returns add-visits below-requires copy-set-requires returns-2 returns-3)
+    (tie.spec visits-requires returns add-visits below-requires copy-set-requires returns-2 returns-3)

@@ -1,8 +1,6 @@
-use mathlib.Core.Path.{_∙_}
+use mathlib.Core.Path.{sym, _∙_}
 use native.Mathlib.Omega.{arith}
-use lib.ListN.{getD}
 use Rattle.search.specs.Walking.{foundIn}
-use Rattle.search.proofs.Heads.{adds-at}
 use Rattle.search.proofs.Starting.{total-none, counted-none, extending-none, search-is}
 use borrow.Author.Needs.{needs}
 use Rattle.search.proofs.walk.Statement.{statement}
@@ -13,20 +11,20 @@ visit-requires c κs =
     let d = c .before .before in
     (d .pre .setLong, d .pre .bestLong, omega arith, total-none (d .args .total) (d .pre), counted-none (d .args .total) (d .pre))
 
-element-copy-out-extend : tie.Need-element-copy-out-extend
-element-copy-out-extend c = search needs
+adds-requires : tie.Need-adds-requires
+adds-requires c κs = search needs
 
 extend-requires : tie.Need-extend-requires
 extend-requires c κs =
     let d = c .before .before .before .before .before .before .before .before in
-    (extending-none (d .args .total) (d .pre) (getD (d .args .net .now) 4 0) (adds-at (d .args .net .now)), c .before .before .before .before .before .visit .ensures .0, c .before .before .before .before .before .visit .ensures .1)
+    (extending-none (d .args .total) (d .pre) (c .adds .result) (sym (c .adds .ensures)), c .before .before .before .before .before .visit .ensures .0, c .before .before .before .before .before .visit .ensures .1)
 
 returns : tie.Need-returns
 returns c =
     let d = c .before .before .before .before .before .before .before .before .before in
     let v = c .before .before .before .before .before .before .visit in
     let l = c .extend .ensures in
-    (l .found ∙ search-is (d .args .total) (d .pre) (getD (d .args .net .now) 4 0) (adds-at (d .args .net .now)) (foundIn (v .result) (v .last .1 .1 .1 .1 .0)) (v .ensures .2), l .bestLong, l .counted .count)
+    (l .found ∙ search-is (d .args .total) (d .pre) (c .before .adds .result) (sym (c .before .adds .ensures)) (foundIn (v .result) (v .last .1 .1 .1 .1 .0)) (v .ensures .2), l .bestLong, l .counted .count)
 
 pub walk-spec : {M : Type 1} → statement M
-walk-spec = tie.close (tie.spec visit-requires element-copy-out-extend extend-requires returns)
+walk-spec = tie.close (tie.spec visit-requires adds-requires extend-requires returns)

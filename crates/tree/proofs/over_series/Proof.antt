@@ -4,7 +4,7 @@ use native.Mathlib.Omega.{arith}
 use lib.ListN.{length, length-set}
 use borrow.Author.Needs.{needs}
 use Rattle.buffer.specs.Buffer.{networkIn}
-use Rattle.tree.proofs.Counting.{series-at, far-noted, Counted, counted-start, counted-fed, counted-next, counted-end, side-noted, over-series}
+use Rattle.tree.proofs.Counting.{far-noted, Counted, counted-start, counted-fed, counted-next, counted-end, side-noted, over-series}
 use Rattle.tree.proofs.over_series.Statement.{statement}
 use Rattle.tree.proofs.over_series.Tie as tie
 
@@ -14,8 +14,8 @@ Inv-loop net near feed order series counts₀ i₀ i-end counts i = (series ≡ 
 abbrev μ-loop : tie.MeasureT-loop
 μ-loop net near feed order series counts₀ i₀ i-end counts i = i-end - i
 
-element-copy-out-series : tie.Need-element-copy-out-series Inv-loop μ-loop
-element-copy-out-series c = search needs
+series-requires : tie.Need-series-requires Inv-loop μ-loop
+series-requires c κs = search needs
 
 no-counts-requires : tie.Need-no-counts-requires Inv-loop μ-loop
 no-counts-requires c κs = search needs
@@ -25,7 +25,7 @@ lines-requires c κs = search needs
 
 loop-holds : tie.Need-loop-holds Inv-loop μ-loop
 loop-holds c = let a = c .before .before .before in
-    (series-at (a .args .net .now), c .lines .ensures, omega arith, search needs, counted-start _ (a .pre .0) (a .pre .1) _ _ _ (a .pre .2) _)
+    (c .before .before .series .ensures, c .lines .ensures, omega arith, search needs, counted-start _ (a .pre .0) (a .pre .1) _ _ _ (a .pre .2) _)
 
 mul-line : tie.Need-mul-line Inv-loop μ-loop
 mul-line c = search needs
@@ -125,7 +125,7 @@ over-series-spec =
     (tie.spec
     Inv-loop
     μ-loop
-    element-copy-out-series
+    series-requires
     no-counts-requires
     lines-requires
     loop-holds

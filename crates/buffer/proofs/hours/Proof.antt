@@ -1,0 +1,16 @@
+use mathlib.Core.Path.{refl}
+use Rattle.model.specs.Network.{headOf}
+use Rattle.buffer.specs.Buffer.{networkIn}
+use borrow.Author.Needs.{needs}
+use Rattle.buffer.proofs.hours.Statement.{statement}
+use Rattle.buffer.proofs.hours.Tie as tie
+
+element-copy-out-result : tie.Need-element-copy-out-result
+element-copy-out-result c = search needs
+
+returns : tie.Need-returns
+unfolding networkIn headOf
+returns c = refl
+
+pub hours-spec : {M : Type 1} → statement M
+hours-spec = tie.close (tie.spec element-copy-out-result returns)
