@@ -14,3 +14,4 @@ pub mod Listing
 pub mod Limits
 pub mod Segments
 pub mod TextSizes
+pub mod Refusals

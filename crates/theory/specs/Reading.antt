@@ -71,7 +71,7 @@ pub record Fits (stations lines : ℕ) (rs : List Range) (vs : List ℕ) : Type 
   pub many : length vs ≡ length rs
   pub ranged : allInRange stations lines (value vs 0) rs vs ≡ true
 
-record-fits : (stations lines i : ℕ) (k : Kind) (r : Record) (vs : List ℕ) → readRecord stations lines i k r ≡ given vs → Fits stations lines (k .ranges) vs
+pub record-fits : (stations lines i : ℕ) (k : Kind) (r : Record) (vs : List ℕ) → readRecord stations lines i k r ≡ given vs → Fits stations lines (k .ranges) vs
 unfolding readRecord checkValues
 record-fits stations lines i k r vs h = go (formOf (k .letter) (length (k .ranges)) r) refl h
   where
@@ -165,7 +165,7 @@ pub record Read (N : Network) : Type 0 where
   pub lines : All (LineFits (length (N .stations))) (N .lines)
   pub places : All (PlaceFits (length (N .lines))) (N .places)
 
-head-fits : (vs : List ℕ) → Fits 0 0 rowN vs → HeadFits (headOf vs)
+pub head-fits : (vs : List ℕ) → Fits 0 0 rowN vs → HeadFits (headOf vs)
 unfolding rowN headOf largestOf
 head-fits vs f = record {
   stations = field-within 0 0 rowN vs f 0 (omega arith);
