@@ -7,13 +7,13 @@
 int main(void)
 {
     static uint8_t file[32769], text[32768];
-    uint64_t answer[6];
+    uint64_t answer[8];
     size_t length = fread(file, 1, sizeof file, stdin);
 
-    jubaxendi_report(file, length, text, sizeof text, answer, 6);
-    if (answer[0] != 0)
-        printf("X,%" PRIu64 ",%" PRIu64 "\n", answer[0], answer[1]);
+    uint64_t refusal = jubaxendi_report(file, length, text, sizeof text, answer);
+    if (refusal != 0)
+        printf("X,%" PRIu64 ",%" PRIu64 "\n", refusal / 65536, refusal % 65536);
     else
-        fwrite(text, 1, answer[2], stdout);
+        fwrite(text, 1, answer[0], stdout);
     return 0;
 }

@@ -4,15 +4,15 @@ import sys
 
 engine = ctypes.CDLL(sys.argv[1])
 numbers = ctypes.POINTER(ctypes.c_uint64)
-engine.jubaxendi_search.restype = ctypes.c_bool
-engine.jubaxendi_search.argtypes = [ctypes.c_char_p, ctypes.c_size_t, numbers, ctypes.c_size_t, numbers, ctypes.c_size_t]
+engine.jubaxendi_search.restype = ctypes.c_uint64
+engine.jubaxendi_search.argtypes = [ctypes.c_char_p, ctypes.c_size_t, numbers, ctypes.c_size_t, numbers]
 
 file = sys.stdin.buffer.read()
 members = (ctypes.c_uint64 * 16)()
-answer = (ctypes.c_uint64 * 6)()
-engine.jubaxendi_search(file, len(file), members, 16, answer, 6)
-refusal, record, finished, count, total, visits = answer
+answer = (ctypes.c_uint64 * 8)()
+refusal = engine.jubaxendi_search(file, len(file), members, 16, answer)
 if refusal:
-    print(f"refused: {refusal}, record {record}")
+    print(f"refused: {refusal // 65536}, record {refusal % 65536}")
 else:
+    finished, count, total, visits = answer[:4]
     print(f"{'finished' if finished else 'spent'} after {visits} visits: places {list(members[:count])}, total {total}")

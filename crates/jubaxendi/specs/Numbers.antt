@@ -1,50 +1,44 @@
--- What a call writes for a program in another language: numbers at the start of a lent list, `answer`.
-use Prim.Native.Nat.{ℕ}
+-- What a call returns to a program in another language, and what it leaves in the lent list of eight numbers, `answer`.
+use Prim.Native.Nat.{ℕ, _+_, _*_}
 use mathlib.Core.Bool.{true, false}
-use mathlib.Core.List.{List, [], _∷_, _++_}
-use lib.ListN.{length, drop}
-use lib.Dec.{leb}
-use Rattle.model.specs.Answer.{Answer, given, refused}
-use Rattle.model.specs.Calls.{Totals, Outcome}
+use mathlib.Core.List.{List, [], _∷_}
+use Rattle.model.specs.Answer.{Answer, given, refused, _>>=_}
+use Rattle.model.specs.Calls.{Totals, Outcome, written}
 
--- a refusal's number and record; of an answer 0, 0 and its values
-unfoldable pub answerNumbers : {A : Type 0} → (A → List ℕ) → Answer A → List ℕ
-answerNumbers values (given x) = 0 ∷ 0 ∷ values x
-answerNumbers values (refused number place) = number ∷ place ∷ []
+-- 0 for an answer; a refusal's number and record in one
+unfoldable pub returned : {A : Type 0} → Answer A → ℕ
+returned (given x) = 0
+returned (refused number place) = number * 65536 + place
+
+-- `answer` after a call: the values of what is given stand at its start and the rest stays. A refusal writes nothing.
+unfoldable pub answerLeaves : {A : Type 0} → (A → List ℕ) → Answer A → List ℕ → List ℕ
+unfolding written
+answerLeaves values a answer = written (a >>= λ x. given (values x)) answer
 
 -- Check has no values.
-abbrev pub checkNumbers : Answer (Unit {0}) → List ℕ
-checkNumbers answer = answerNumbers (λ u. []) answer
+abbrev pub checkValues : Unit {0} → List ℕ
+checkValues u = []
 
 -- Impact: the customers.
-abbrev pub impactNumbers : Answer ℕ → List ℕ
-impactNumbers answer = answerNumbers (λ customers. customers ∷ []) answer
+abbrev pub impactValues : ℕ → List ℕ
+impactValues customers = customers ∷ []
 
 -- Total: the total and the figure.
-abbrev pub totalNumbers : Answer Totals → List ℕ
-totalNumbers answer = answerNumbers (λ t. t .total ∷ t .figure ∷ []) answer
+abbrev pub totalValues : Totals → List ℕ
+totalValues t = t .total ∷ t .figure ∷ []
 
 -- Search: 1 finished or 0 spent, the number of members, their total, the visits.
-abbrev pub searchNumbers : Answer Outcome → List ℕ
-searchNumbers answer = answerNumbers (λ o. (elim (o .finished) [ true ↦ 1 | false ↦ 0 ]) ∷ o .members ∷ o .total ∷ o .visits ∷ []) answer
+abbrev pub searchValues : Outcome → List ℕ
+searchValues o = (elim (o .finished) [ true ↦ 1 | false ↦ 0 ]) ∷ o .members ∷ o .total ∷ o .visits ∷ []
 
 -- Report: the length of the text.
-abbrev pub reportNumbers : Answer ℕ → List ℕ
-reportNumbers answer = answerNumbers (λ length. length ∷ []) answer
+abbrev pub reportValues : ℕ → List ℕ
+reportValues length = length ∷ []
 
 -- Segments: the number of entries.
-abbrev pub segmentsNumbers : Answer ℕ → List ℕ
-segmentsNumbers answer = answerNumbers (λ entries. entries ∷ []) answer
+abbrev pub segmentsValues : ℕ → List ℕ
+segmentsValues entries = entries ∷ []
 
 -- Ceiling: the number of sets.
-abbrev pub ceilingNumbers : Answer ℕ → List ℕ
-ceilingNumbers answer = answerNumbers (λ sets. sets ∷ []) answer
-
--- A buffer after a call: as the call leaves it, or as it was where `answer` has room for fewer than six numbers.
-unfoldable pub ifRoom : List ℕ → List ℕ → List ℕ → List ℕ
-ifRoom answer left buffer = elim (leb 6 (length answer)) [ true ↦ left | false ↦ buffer ]
-
--- `answer` itself after a call: the numbers stand at its start and the rest stays.
-unfoldable pub answerLeaves : List ℕ → List ℕ → List ℕ
-unfolding ifRoom
-answerLeaves numbers answer = ifRoom answer (numbers ++ drop (length numbers) answer) answer
+abbrev pub ceilingValues : ℕ → List ℕ
+ceilingValues sets = sets ∷ []

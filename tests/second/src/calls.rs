@@ -9,22 +9,25 @@ use crate::walk::{self, Answer};
 use std::cell::{OnceCell, RefCell};
 use std::rc::Rc;
 
-/// The least lengths of lent buffers.
-pub const ANSWER: usize = 6;
+/// The numbers that a call is lent for its values.
+pub const ANSWER: usize = 8;
+pub type Values = [u64; ANSWER];
+
+/// The least lengths of the other lent buffers.
 pub const MEMBERS: usize = 16;
 pub const TEXT: usize = 32_768;
 pub const TABLE: usize = 7_680;
 
-/// Each call gives false and writes nothing if the answer has fewer than 6 numbers. Otherwise the answer starts with the
-/// refusal's number (0: answered) and record, and of an answered call the values follow.
+/// Each call gives 0 and writes its values at the start of `answer`, or it gives the refusal's number * 65,536 + its record and
+/// writes nothing.
 pub trait Calls {
-    fn check(&self, file: &[u8], answer: &mut [u64]) -> bool;
-    fn impact(&self, file: &[u8], line: u64, answer: &mut [u64]) -> bool;
-    fn total(&self, file: &[u8], answer: &mut [u64]) -> bool;
-    fn search(&self, file: &[u8], members: &mut [u64], answer: &mut [u64]) -> bool;
-    fn report(&self, file: &[u8], text: &mut [u8], answer: &mut [u64]) -> bool;
-    fn segments(&self, file: &[u8], table: &mut [u64], answer: &mut [u64]) -> bool;
-    fn ceiling(&self, places: u64, additions: u64, answer: &mut [u64]) -> bool;
+    fn check(&self, file: &[u8], answer: &mut Values) -> u64;
+    fn impact(&self, file: &[u8], line: u64, answer: &mut Values) -> u64;
+    fn total(&self, file: &[u8], answer: &mut Values) -> u64;
+    fn search(&self, file: &[u8], members: &mut [u64], answer: &mut Values) -> u64;
+    fn report(&self, file: &[u8], text: &mut [u8], answer: &mut Values) -> u64;
+    fn segments(&self, file: &[u8], table: &mut [u64], answer: &mut Values) -> u64;
+    fn ceiling(&self, places: u64, additions: u64, answer: &mut Values) -> u64;
     /// What the program prints when it is given the file in pieces of so many bytes, or of more if these would be very many;
     /// none if there is no program.
     fn program(&self, file: &[u8], piece: usize) -> Option<Vec<u8>>;
@@ -61,26 +64,29 @@ impl Second {
         worked
     }
 
-    /// Writes an answer's values, or the refusal.
-    fn put<const N: usize>(&self, answer: &mut [u64], result: Result<[u64; N], Refusal>) -> bool {
+    /// Writes an answer's values, and gives what the call returns.
+    fn put<const N: usize>(&self, answer: &mut Values, result: Result<[u64; N], Refusal>) -> u64 {
         match result {
             Ok(values) => {
-                answer[..2].fill(0);
-                answer[2..].iter_mut().zip(values).for_each(|(slot, value)| *slot = value);
+                let first = usize::from(self.wrong == Some(ValuesLater));
+                answer[first..first + N].copy_from_slice(&values);
+                if self.wrong == Some(AnswerCleared) {
+                    answer[N..].fill(0);
+                }
+                u64::from(self.wrong == Some(AnsweredOne))
             }
-            Err(refusal) => {
-                answer[0] = refusal.number;
-                answer[1] = refusal.record;
-                if self.wrong == Some(ThirdNumber) {
-                    answer[2] = 0;
+            Err(Refusal { number, record }) => {
+                if self.wrong == Some(RefusalInAnswer) {
+                    answer[..2].copy_from_slice(&[number, record]);
+                }
+                match self.wrong {
+                    Some(RecordBeforeNumber) => record * 65_536 + number,
+                    Some(RecordLeftOut) => number * 65_536,
+                    Some(RefusalAnswered) => 0,
+                    _ => number * 65_536 + record,
                 }
             }
         }
-        true
-    }
-
-    fn too_short(&self, answer: &[u64]) -> bool {
-        answer.len() < if self.wrong == Some(AnswerOfFive) { ANSWER - 1 } else { ANSWER }
     }
 
     fn least_members(&self) -> usize {
@@ -203,41 +209,35 @@ fn sets_of(places: u64, size: u64) -> u64 {
 }
 
 impl Calls for Second {
-    fn check(&self, file: &[u8], answer: &mut [u64]) -> bool {
-        if self.too_short(answer) {
-            return false;
-        }
+    fn check(&self, file: &[u8], answer: &mut Values) -> u64 {
         let worked = self.worked(file);
         self.put(answer, worked.network.as_ref().map(|_| []).map_err(|r| *r))
     }
 
-    fn impact(&self, file: &[u8], line: u64, answer: &mut [u64]) -> bool {
-        !self.too_short(answer) && self.put(answer, self.impact_of(file, line))
+    fn impact(&self, file: &[u8], line: u64, answer: &mut Values) -> u64 {
+        self.put(answer, self.impact_of(file, line))
     }
 
-    fn total(&self, file: &[u8], answer: &mut [u64]) -> bool {
-        if self.too_short(answer) {
-            return false;
-        }
+    fn total(&self, file: &[u8], answer: &mut Values) -> u64 {
         let worked = self.worked(file);
         let result = worked.network.as_ref().map(|n| [n.total(), n.figure(n.total())]);
         self.put(answer, result.map_err(|r| *r))
     }
 
-    fn search(&self, file: &[u8], members: &mut [u64], answer: &mut [u64]) -> bool {
-        !self.too_short(answer) && self.put(answer, self.search_of(file, members))
+    fn search(&self, file: &[u8], members: &mut [u64], answer: &mut Values) -> u64 {
+        self.put(answer, self.search_of(file, members))
     }
 
-    fn report(&self, file: &[u8], text: &mut [u8], answer: &mut [u64]) -> bool {
-        !self.too_short(answer) && self.put(answer, self.report_of(file, text))
+    fn report(&self, file: &[u8], text: &mut [u8], answer: &mut Values) -> u64 {
+        self.put(answer, self.report_of(file, text))
     }
 
-    fn segments(&self, file: &[u8], table: &mut [u64], answer: &mut [u64]) -> bool {
-        !self.too_short(answer) && self.put(answer, self.segments_of(file, table))
+    fn segments(&self, file: &[u8], table: &mut [u64], answer: &mut Values) -> u64 {
+        self.put(answer, self.segments_of(file, table))
     }
 
-    fn ceiling(&self, places: u64, additions: u64, answer: &mut [u64]) -> bool {
-        !self.too_short(answer) && self.put(answer, self.ceiling_of(places, additions))
+    fn ceiling(&self, places: u64, additions: u64, answer: &mut Values) -> u64 {
+        self.put(answer, self.ceiling_of(places, additions))
     }
 
     fn program(&self, file: &[u8], _piece: usize) -> Option<Vec<u8>> {

@@ -1,6 +1,6 @@
 //! Compares two implementations of the calls, file by file.
 
-use crate::calls::{Calls, ANSWER, MEMBERS, TABLE, TEXT};
+use crate::calls::{Calls, Values, ANSWER, MEMBERS, TABLE, TEXT};
 use crate::file::LONGEST;
 use crate::network::Network;
 use crate::random::Random;
@@ -20,18 +20,18 @@ pub enum Call {
     Program { piece: usize },
 }
 
-/// A call, the length of the answer lent to it, and what the lent buffers are filled with.
+/// A call, and what the lent buffers are filled with.
 #[derive(Clone, Copy, Debug)]
 pub struct Asked {
     pub call: Call,
-    pub answer: usize,
     pub fill: u64,
 }
 
 /// What a call left behind.
 #[derive(PartialEq, Eq)]
 struct Left {
-    returned: bool,
+    returned: u64,
+    /// The values at its start
     answer: Vec<u64>,
     /// The members that Search writes, or the table of Segments
     numbers: Vec<u64>,
@@ -61,6 +61,13 @@ fn inner<T>(buffer: &mut [T]) -> &mut [T] {
     &mut buffer[MARGIN..end]
 }
 
+impl Left {
+    /// The eight numbers lent for the values
+    fn values(&self) -> &[u64] {
+        &self.answer[MARGIN..self.answer.len() - MARGIN]
+    }
+}
+
 /// Lent buffers and what they were filled with.
 fn lend(asked: &Asked) -> Left {
     let numbers = match asked.call {
@@ -70,15 +77,15 @@ fn lend(asked: &Asked) -> Left {
     };
     let text = if let Call::Report { text } = asked.call { text } else { 0 };
     Left {
-        returned: false,
-        answer: filled(asked.fill, asked.answer),
+        returned: 0,
+        answer: filled(asked.fill, ANSWER),
         numbers: filled(asked.fill ^ 1, numbers),
         text: filled_text(asked.fill ^ 2, text),
     }
 }
 
 fn ask(side: &dyn Calls, file: &[u8], asked: &Asked, mut left: Left) -> Left {
-    let answer = inner(&mut left.answer);
+    let answer: &mut Values = inner(&mut left.answer).try_into().expect("eight numbers");
     left.returned = match asked.call {
         Call::Check => side.check(file, answer),
         Call::Impact { line } => side.impact(file, line, answer),
@@ -89,46 +96,35 @@ fn ask(side: &dyn Calls, file: &[u8], asked: &Asked, mut left: Left) -> Left {
         Call::Ceiling { places, additions } => side.ceiling(places, additions, answer),
         Call::Program { piece } => {
             left.text = side.program(file, piece).unwrap_or_default();
-            true
+            0
         }
     };
     left
 }
 
-/// The numbers of an answer of this call, refused or not.
-fn answer_count(call: &Call, answer: &[u64]) -> usize {
-    if answer[0] != 0 {
-        return 2;
-    }
-    2 + match call {
-        Call::Check => 0,
+/// How many values this call answers.
+fn value_count(call: &Call) -> usize {
+    match call {
+        Call::Check | Call::Program { .. } => 0,
         Call::Impact { .. } | Call::Report { .. } | Call::Segments { .. } | Call::Ceiling { .. } => 1,
         Call::Total => 2,
-        _ => 4,
+        Call::Search { .. } => 4,
     }
 }
 
-/// The first place where a call wrote what it must not, by the answer that it gave.
+/// The first place where a call wrote what it must not, by what it returned: a refusal writes nothing at all.
 fn stray_write(asked: &Asked, before: &Left, after: &Left) -> Option<String> {
     if matches!(asked.call, Call::Program { .. }) {
         return None;
     }
-    let lent = asked.answer;
-    if after.returned != (lent >= ANSWER) {
-        return Some(format!("returned {}", after.returned));
-    }
-    let mut free = 0;
-    let (mut numbers, mut text) = (0, 0);
-    if after.returned {
-        let answer = &after.answer[MARGIN..MARGIN + lent];
-        free = answer_count(&asked.call, answer);
-        if answer[0] == 0 {
-            match asked.call {
-                Call::Search { .. } => numbers = answer[3] as usize,
-                Call::Segments { .. } => numbers = 5 * answer[2] as usize,
-                Call::Report { .. } => text = answer[2] as usize,
-                _ => {}
-            }
+    let (mut values, mut numbers, mut text) = (0, 0, 0);
+    if after.returned == 0 {
+        values = value_count(&asked.call);
+        match asked.call {
+            Call::Search { .. } => numbers = after.values()[1] as usize,
+            Call::Segments { .. } => numbers = (after.values()[0] as usize).saturating_mul(5),
+            Call::Report { .. } => text = after.values()[0] as usize,
+            _ => {}
         }
     }
     fn outside<T: PartialEq>(before: &[T], after: &[T], free: usize) -> Option<usize> {
@@ -136,7 +132,7 @@ fn stray_write(asked: &Asked, before: &Left, after: &Left) -> Option<String> {
     }
     let names = ["answer", "numbers", "text"];
     let strays = [
-        outside(&before.answer, &after.answer, free),
+        outside(&before.answer, &after.answer, values),
         outside(&before.numbers, &after.numbers, numbers),
         outside(&before.text, &after.text, text),
     ];
@@ -144,11 +140,9 @@ fn stray_write(asked: &Asked, before: &Left, after: &Left) -> Option<String> {
 }
 
 /// What is wrong with the sums of a segment table: its products sum to the total line by line, its weights to those of all lines.
-fn sums_fault(network: &Network, answer: &[u64], table: &[u64]) -> Option<String> {
-    if answer[0] != 0 {
-        return None;
-    }
-    let entries = table.chunks_exact(5).take(answer[2] as usize);
+fn sums_fault(network: &Network, left: &Left) -> Option<String> {
+    let table = &left.numbers[MARGIN..left.numbers.len() - MARGIN];
+    let entries = table.chunks_exact(5).take(left.values()[0] as usize);
     let sum = |at: usize| entries.clone().map(|entry| u128::from(entry[at])).sum::<u128>();
     let weights = network.file.lines.iter().map(|line| u128::from(line.weight)).sum::<u128>();
     let total = u128::from(network.total());
@@ -159,16 +153,15 @@ fn shown(asked: &Asked, left: &Left) -> String {
     if matches!(asked.call, Call::Program { .. }) {
         return printable(&left.text);
     }
-    if !left.returned {
-        return format!("false, answer {:?}", &left.answer[MARGIN..left.answer.len() - MARGIN]);
+    let answer = left.values();
+    if left.returned != 0 {
+        return format!("refusal {}, record {}, answer {answer:?}", left.returned / 65_536, left.returned % 65_536);
     }
-    let count = answer_count(&asked.call, &left.answer[MARGIN..]).min(asked.answer);
-    let answer = &left.answer[MARGIN..MARGIN + count];
     let room = left.numbers.len() - 2 * MARGIN;
-    let members = answer.get(3).map_or(0, |&n| n as usize).min(room);
-    let table = answer.get(2).map_or(0, |&n| n as usize).saturating_mul(5).min(room);
-    let text = answer.get(2).map_or(0, |&n| n as usize).min(left.text.len() - 2 * MARGIN);
-    let mut out = format!("true, {answer:?}");
+    let members = (answer[1] as usize).min(room);
+    let table = (answer[0] as usize).saturating_mul(5).min(room);
+    let text = (answer[0] as usize).min(left.text.len() - 2 * MARGIN);
+    let mut out = format!("answer {answer:?}");
     match asked.call {
         Call::Search { .. } => out += &format!(", members {:?}", &left.numbers[MARGIN..MARGIN + members]),
         Call::Segments { .. } => out += &format!(", table {:?}", &left.numbers[MARGIN..MARGIN + table]),
@@ -270,23 +263,20 @@ impl<'a> Comparison<'a> {
         lent.extend_from_slice(b"0\nP,1,1,1,1\nS,1,0\n");
         let engine = ask(self.engine, &lent[start..end], asked, lend(asked));
         let difference = |second: String, engine: String| Some(Difference { asked: *asked, second, engine });
-        if let (Call::Search { .. }, Some((network, allowed)), true) = (asked.call, demand, engine.returned) {
-            let answer = &engine.answer[MARGIN..MARGIN + asked.answer];
-            if answer[0] == 0 {
-                let count = (answer[3] as usize).min(engine.numbers.len() - 2 * MARGIN);
-                let members = engine.numbers[MARGIN..MARGIN + count].iter().map(|&m| m as usize).collect();
-                let answered = Answer { finished: answer[2] == 1, members, total: answer[4], visits: answer[5] };
-                if let Some(fault) = subsets::fault_of(network, &answered, allowed) {
-                    return difference(format!("demand 3: {fault}"), shown(asked, &engine));
-                }
+        if let (Call::Search { .. }, Some((network, allowed)), 0) = (asked.call, demand, engine.returned) {
+            let answer = engine.values();
+            let count = (answer[1] as usize).min(engine.numbers.len() - 2 * MARGIN);
+            let members = engine.numbers[MARGIN..MARGIN + count].iter().map(|&m| m as usize).collect();
+            let answered = Answer { finished: answer[0] == 1, members, total: answer[2], visits: answer[3] };
+            if let Some(fault) = subsets::fault_of(network, &answered, allowed) {
+                return difference(format!("demand 3: {fault}"), shown(asked, &engine));
             }
         }
         if self.against == Against::Demand {
             return None;
         }
-        if let (Call::Segments { .. }, Some((network, _)), true) = (asked.call, demand, engine.returned) {
-            let answer = &engine.answer[MARGIN..MARGIN + asked.answer];
-            if let Some(fault) = sums_fault(network, answer, &engine.numbers[MARGIN..engine.numbers.len() - MARGIN]) {
+        if let (Call::Segments { .. }, Some((network, _)), 0) = (asked.call, demand, engine.returned) {
+            if let Some(fault) = sums_fault(network, &engine) {
                 return difference(fault, shown(asked, &engine));
             }
         }
@@ -342,8 +332,7 @@ impl<'a> Comparison<'a> {
         let outside = [66, 128, 1 << 32, (1 << 32) + 3, u64::MAX - 1, u64::MAX];
         for places in (0..=65).chain(outside) {
             for additions in (0..=17).chain([32, 64, 65]).chain(outside) {
-                let answer = if additions < 12 && places % 9 == 0 { additions as usize } else { ANSWER };
-                let asked = Asked { call: Call::Ceiling { places, additions }, answer, fill: places ^ additions << 8 };
+                let asked = Asked { call: Call::Ceiling { places, additions }, fill: places ^ additions << 8 };
                 self.calls += 1;
                 let difference = self.differs(b"", &asked, None);
                 if difference.is_some() {
@@ -404,12 +393,5 @@ fn plan(network: Option<&Network>, depth: Depth, r: &mut Random) -> Vec<Asked> {
             }
         }
     }
-    let odd_answers = r.once_in(4);
-    calls
-        .into_iter()
-        .map(|call| {
-            let answer = if odd_answers && r.once_in(2) { r.pick(&[0, 1, 2, 3, 4, 5, 5, 7, 8, 12]) } else { ANSWER };
-            Asked { call, answer, fill: r.any() >> 8 }
-        })
-        .collect()
+    calls.into_iter().map(|call| Asked { call, fill: r.any() >> 8 }).collect()
 }

@@ -1,39 +1,18 @@
 //! The engine's static library, and the program `breakers`.
 
-use crate::calls::Calls;
+use crate::calls::{Calls, Values};
 use std::io::{Read, Write};
 use std::path::PathBuf;
 use std::process::{Command, Stdio};
 
 extern "C" {
-    fn jubaxendi_check(file: *const u8, file_length: usize, answer: *mut u64, answer_length: usize) -> bool;
-    fn jubaxendi_impact(file: *const u8, file_length: usize, line: u64, answer: *mut u64, answer_length: usize) -> bool;
-    fn jubaxendi_total(file: *const u8, file_length: usize, answer: *mut u64, answer_length: usize) -> bool;
-    fn jubaxendi_search(
-        file: *const u8,
-        file_length: usize,
-        members: *mut u64,
-        members_length: usize,
-        answer: *mut u64,
-        answer_length: usize,
-    ) -> bool;
-    fn jubaxendi_report(
-        file: *const u8,
-        file_length: usize,
-        text: *mut u8,
-        text_length: usize,
-        answer: *mut u64,
-        answer_length: usize,
-    ) -> bool;
-    fn jubaxendi_segments(
-        file: *const u8,
-        file_length: usize,
-        table: *mut u64,
-        table_length: usize,
-        answer: *mut u64,
-        answer_length: usize,
-    ) -> bool;
-    fn jubaxendi_ceiling(places: u64, additions: u64, answer: *mut u64, answer_length: usize) -> bool;
+    fn jubaxendi_check(file: *const u8, file_length: usize, answer: *mut u64) -> u64;
+    fn jubaxendi_impact(file: *const u8, file_length: usize, line: u64, answer: *mut u64) -> u64;
+    fn jubaxendi_total(file: *const u8, file_length: usize, answer: *mut u64) -> u64;
+    fn jubaxendi_search(file: *const u8, file_length: usize, members: *mut u64, members_length: usize, answer: *mut u64) -> u64;
+    fn jubaxendi_report(file: *const u8, file_length: usize, text: *mut u8, text_length: usize, answer: *mut u64) -> u64;
+    fn jubaxendi_segments(file: *const u8, file_length: usize, table: *mut u64, table_length: usize, answer: *mut u64) -> u64;
+    fn jubaxendi_ceiling(places: u64, additions: u64, answer: *mut u64) -> u64;
 }
 
 /// The engine, with its program if there is one.
@@ -41,36 +20,34 @@ pub struct Engine {
     pub program: Option<PathBuf>,
 }
 
-// SAFETY of each call: the pointers and lengths are those of slices that live through the call.
+// SAFETY of each call: the pointers and lengths are those of slices that live through the call, and `answer` has eight numbers.
 impl Calls for Engine {
-    fn check(&self, file: &[u8], answer: &mut [u64]) -> bool {
-        unsafe { jubaxendi_check(file.as_ptr(), file.len(), answer.as_mut_ptr(), answer.len()) }
+    fn check(&self, file: &[u8], answer: &mut Values) -> u64 {
+        unsafe { jubaxendi_check(file.as_ptr(), file.len(), answer.as_mut_ptr()) }
     }
 
-    fn impact(&self, file: &[u8], line: u64, answer: &mut [u64]) -> bool {
-        unsafe { jubaxendi_impact(file.as_ptr(), file.len(), line, answer.as_mut_ptr(), answer.len()) }
+    fn impact(&self, file: &[u8], line: u64, answer: &mut Values) -> u64 {
+        unsafe { jubaxendi_impact(file.as_ptr(), file.len(), line, answer.as_mut_ptr()) }
     }
 
-    fn total(&self, file: &[u8], answer: &mut [u64]) -> bool {
-        unsafe { jubaxendi_total(file.as_ptr(), file.len(), answer.as_mut_ptr(), answer.len()) }
+    fn total(&self, file: &[u8], answer: &mut Values) -> u64 {
+        unsafe { jubaxendi_total(file.as_ptr(), file.len(), answer.as_mut_ptr()) }
     }
 
-    fn search(&self, file: &[u8], members: &mut [u64], answer: &mut [u64]) -> bool {
-        unsafe {
-            jubaxendi_search(file.as_ptr(), file.len(), members.as_mut_ptr(), members.len(), answer.as_mut_ptr(), answer.len())
-        }
+    fn search(&self, file: &[u8], members: &mut [u64], answer: &mut Values) -> u64 {
+        unsafe { jubaxendi_search(file.as_ptr(), file.len(), members.as_mut_ptr(), members.len(), answer.as_mut_ptr()) }
     }
 
-    fn report(&self, file: &[u8], text: &mut [u8], answer: &mut [u64]) -> bool {
-        unsafe { jubaxendi_report(file.as_ptr(), file.len(), text.as_mut_ptr(), text.len(), answer.as_mut_ptr(), answer.len()) }
+    fn report(&self, file: &[u8], text: &mut [u8], answer: &mut Values) -> u64 {
+        unsafe { jubaxendi_report(file.as_ptr(), file.len(), text.as_mut_ptr(), text.len(), answer.as_mut_ptr()) }
     }
 
-    fn segments(&self, file: &[u8], table: &mut [u64], answer: &mut [u64]) -> bool {
-        unsafe { jubaxendi_segments(file.as_ptr(), file.len(), table.as_mut_ptr(), table.len(), answer.as_mut_ptr(), answer.len()) }
+    fn segments(&self, file: &[u8], table: &mut [u64], answer: &mut Values) -> u64 {
+        unsafe { jubaxendi_segments(file.as_ptr(), file.len(), table.as_mut_ptr(), table.len(), answer.as_mut_ptr()) }
     }
 
-    fn ceiling(&self, places: u64, additions: u64, answer: &mut [u64]) -> bool {
-        unsafe { jubaxendi_ceiling(places, additions, answer.as_mut_ptr(), answer.len()) }
+    fn ceiling(&self, places: u64, additions: u64, answer: &mut Values) -> u64 {
+        unsafe { jubaxendi_ceiling(places, additions, answer.as_mut_ptr()) }
     }
 
     /// Standard output; behind it standard error and the status, should there be anything on it or the status not be 0.

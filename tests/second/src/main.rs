@@ -9,7 +9,7 @@
 //!
 //! Where the engine is not linked, the second implementation without mistakes stands in for it, and a mistake must be named.
 
-use second::calls::{Calls, Second};
+use second::calls::{Calls, Second, ANSWER};
 use second::compare::{printable, Against, Call, Comparison, Depth, Difference};
 use second::fixed::{self, Named};
 use second::mistakes::{self, MISTAKES};
@@ -161,11 +161,10 @@ fn marked_cases(sides: [(&str, &dyn Calls); 2]) -> bool {
         for (side, calls) in sides {
             let file = fixed::bytes_of(&text);
             let mut buffer = vec![0; 32_768];
-            let mut answer = [0; 6];
-            calls.report(&file, &mut buffer, &mut answer);
-            let reported = match answer[0] {
-                0 => buffer[..answer[2] as usize].to_vec(),
-                _ => format!("X,{},{}\n", answer[0], answer[1]).into_bytes(),
+            let mut answer = [0; ANSWER];
+            let reported = match calls.report(&file, &mut buffer, &mut answer) {
+                0 => buffer[..answer[0] as usize].to_vec(),
+                refusal => format!("X,{},{}\n", refusal / 65_536, refusal % 65_536).into_bytes(),
             };
             for (by, printed) in [("Report", Some(reported)), ("breakers", calls.program(&file, usize::MAX))] {
                 if let Some(printed) = printed.filter(|p| !fixed::agrees(p, expected)) {
@@ -176,10 +175,10 @@ fn marked_cases(sides: [(&str, &dyn Calls); 2]) -> bool {
         }
     }
     for (side, calls) in sides {
-        let mut answer = [9; 6];
-        calls.ceiling(2, 1, &mut answer);
-        if answer[..3] != [0, 0, 3] {
-            println!("case l: {side}: {answer:?}");
+        let mut answer = [9; ANSWER];
+        let returned = calls.ceiling(2, 1, &mut answer);
+        if (returned, answer[0]) != (0, 3) {
+            println!("case l: {side}: {returned}, {answer:?}");
             right = false;
         }
     }
@@ -251,7 +250,7 @@ fn time(options: &Options) -> bool {
     let mut file = Vec::new();
     let read = std::io::stdin().read_to_end(&mut file);
     let engine = engine(options);
-    let mut answer = [0; 6];
+    let mut answer = [0; ANSWER];
     let mut text = vec![0; 32_768];
     let mut table = vec![0; 7_680];
     // the fastest of many runs, one of each side in turn
@@ -265,10 +264,10 @@ fn time(options: &Options) -> bool {
         }
         println!("{name} {ours} {second}");
     };
-    both("Check", &mut |calls| assert!(calls.check(&file, &mut answer)));
-    both("Total", &mut |calls| assert!(calls.total(&file, &mut answer)));
-    both("Segments", &mut |calls| assert!(calls.segments(&file, &mut table, &mut answer)));
-    both("Report", &mut |calls| assert!(calls.report(&file, &mut text, &mut answer)));
+    both("Check", &mut |calls| assert_eq!(calls.check(&file, &mut answer), 0));
+    both("Total", &mut |calls| assert_eq!(calls.total(&file, &mut answer), 0));
+    both("Segments", &mut |calls| assert_eq!(calls.segments(&file, &mut table, &mut answer), 0));
+    both("Report", &mut |calls| assert_eq!(calls.report(&file, &mut text, &mut answer), 0));
     read.is_ok()
 }
 

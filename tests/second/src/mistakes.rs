@@ -131,8 +131,13 @@ mistakes! {
     LineAbove: "Impact answers 0 for line lines + 1",
     CeilingExact: "Ceiling counts the sets of just a places",
     CeilingShort: "Ceiling refuses 64 places",
-    AnswerOfFive: "an answer of five numbers is accepted",
-    ThirdNumber: "a refusal writes a third number",
+    ValuesLater: "the values start at the answer's second number",
+    AnswerCleared: "the rest of the answer is cleared",
+    AnsweredOne: "an answered call returns 1",
+    RefusalInAnswer: "a refusal's number and record are written to the answer",
+    RecordBeforeNumber: "a refusal is returned with its record before its number",
+    RecordLeftOut: "a refusal is returned without its record",
+    RefusalAnswered: "a refused call returns 0",
 }
 
 impl Mistake {

@@ -1,67 +1,43 @@
+use mathlib.Core.Path.{refl}
 use borrow.Author.Needs.{needs}
-use Rattle.model.specs.Calls.{ceilingSays}
-use Rattle.jubaxendi.specs.Numbers.{answerNumbers, ceilingNumbers}
-use Rattle.jubaxendi.proofs.Writing.{nothing-written, case-written}
+use Rattle.model.specs.Calls.{ceilingSays, written}
+use Rattle.theory.specs.Refusals.{ceiling-bounded}
+use Rattle.jubaxendi.specs.Numbers.{returned, answerLeaves, ceilingValues}
+use Rattle.jubaxendi.proofs.Writing.{case-bounded, case-answered}
 use Rattle.jubaxendi.proofs.jubaxendi_ceiling.Statement.{statement}
 use Rattle.jubaxendi.proofs.jubaxendi_ceiling.Tie as tie
 
+refusal-requires : tie.Need-refusal-requires
+unfolding ceilingSays
+refusal-requires c κs =
+    let k = c .before in
+    let r = k .before .before in
+    let b = case-bounded ceilingSays (r .ceiling .ensures) (k .number .given .1) (ceiling-bounded _ _) in
+    (b .largest, b .below)
+
 returns : tie.Need-returns
-returns c = nothing-written (c .before .before .args .answer .now) (c .if1 .taken) _
-
-ceiling-requires : tie.Need-ceiling-requires
-ceiling-requires c κs = search needs
-
-enum-known-number : tie.Need-enum-known-number
-enum-known-number c = search needs
-
-put-refusal-requires : tie.Need-put-refusal-requires
-put-refusal-requires c κs = search needs
-
-enum-known-sets : tie.Need-enum-known-sets
-enum-known-sets c = search needs
-
-slice-aggregate-put-numbers : tie.Need-slice-aggregate-put-numbers
-slice-aggregate-put-numbers c = search needs
-
-put-numbers-requires : tie.Need-put-numbers-requires
-put-numbers-requires c κs = search needs
-
-same-length : tie.Need-same-length
-same-length c = search needs
+unfolding ceilingSays returned answerLeaves written
+returns c =
+    let k = c .before .before in
+    let r = k .before .before in
+    case-answered ceilingSays (r .ceiling .ensures) (k .number .given .1) ceilingValues _ (c .refusal .ensures) refl
 
 returns-2 : tie.Need-returns-2
-unfolding ceilingSays answerNumbers
+unfolding ceilingSays returned answerLeaves written
 returns-2 c =
-    let k = c .before .before .before .before .before in
+    let k = c .before .before .before .before in
     let r = k .before .before in
-    let d = r .before in
-    let answer = d .before .before .args .answer .now in
-    case-written answer ceilingSays ceilingNumbers (d .if1 .left) (r .ceiling .ensures) (k .number .given .1) (c .before .before .put-refusal .ensures)
-
-same-length-2 : tie.Need-same-length-2
-same-length-2 c = search needs
-
-returns-3 : tie.Need-returns-3
-unfolding ceilingSays answerNumbers
-returns-3 c =
-    let k = c .before .before .before .before .before .before in
-    let r = k .before .before in
-    let d = r .before in
-    let answer = d .before .before .args .answer .now in
-    case-written answer ceilingSays ceilingNumbers (d .if1 .left) (r .ceiling .ensures) (k .sets .given .1) (c .before .before .put-numbers .ensures)
+    case-answered ceilingSays (r .ceiling .ensures) (k .sets .given .1) ceilingValues _ refl (c .put-numbers .ensures)
 
 pub jubaxendi-ceiling-spec : {M : Type 1} → statement M
 jubaxendi-ceiling-spec =
     tie.close
     (tie.spec
+    (search needs)
+    (search needs)
+    refusal-requires
+    (search needs)
+    (search needs)
+    (search needs)
     returns
-    ceiling-requires
-    enum-known-number
-    put-refusal-requires
-    enum-known-sets
-    slice-aggregate-put-numbers
-    put-numbers-requires
-    same-length
-    returns-2
-    same-length-2
-    returns-3)
+    returns-2)

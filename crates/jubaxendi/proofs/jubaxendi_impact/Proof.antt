@@ -1,67 +1,43 @@
+use mathlib.Core.Path.{refl}
 use borrow.Author.Needs.{needs}
-use Rattle.model.specs.Calls.{impactSays}
-use Rattle.jubaxendi.specs.Numbers.{answerNumbers, impactNumbers}
-use Rattle.jubaxendi.proofs.Writing.{nothing-written, case-written}
+use Rattle.model.specs.Calls.{impactSays, written}
+use Rattle.theory.specs.Refusals.{impact-bounded}
+use Rattle.jubaxendi.specs.Numbers.{returned, answerLeaves, impactValues}
+use Rattle.jubaxendi.proofs.Writing.{case-bounded, case-answered}
 use Rattle.jubaxendi.proofs.jubaxendi_impact.Statement.{statement}
 use Rattle.jubaxendi.proofs.jubaxendi_impact.Tie as tie
 
+refusal-requires : tie.Need-refusal-requires
+unfolding impactSays
+refusal-requires c κs =
+    let k = c .before in
+    let r = k .before .before in
+    let b = case-bounded impactSays (r .impact .ensures) (k .number .given .1) (impact-bounded _ _) in
+    (b .largest, b .below)
+
 returns : tie.Need-returns
-returns c = nothing-written (c .before .before .before .args .answer .now) (c .if1 .taken) _
-
-impact-requires : tie.Need-impact-requires
-impact-requires c κs = search needs
-
-enum-known-number : tie.Need-enum-known-number
-enum-known-number c = search needs
-
-put-refusal-requires : tie.Need-put-refusal-requires
-put-refusal-requires c κs = search needs
-
-enum-known-customers : tie.Need-enum-known-customers
-enum-known-customers c = search needs
-
-slice-aggregate-put-numbers : tie.Need-slice-aggregate-put-numbers
-slice-aggregate-put-numbers c = search needs
-
-put-numbers-requires : tie.Need-put-numbers-requires
-put-numbers-requires c κs = search needs
-
-same-length : tie.Need-same-length
-same-length c = search needs
+unfolding impactSays returned answerLeaves written
+returns c =
+    let k = c .before .before in
+    let r = k .before .before in
+    case-answered impactSays (r .impact .ensures) (k .number .given .1) impactValues _ (c .refusal .ensures) refl
 
 returns-2 : tie.Need-returns-2
-unfolding impactSays answerNumbers
+unfolding impactSays returned answerLeaves written
 returns-2 c =
-    let k = c .before .before .before .before .before in
+    let k = c .before .before .before .before in
     let r = k .before .before in
-    let d = r .before in
-    let answer = d .before .before .before .args .answer .now in
-    case-written answer impactSays impactNumbers (d .if1 .left) (r .impact .ensures) (k .number .given .1) (c .before .before .put-refusal .ensures)
-
-same-length-2 : tie.Need-same-length-2
-same-length-2 c = search needs
-
-returns-3 : tie.Need-returns-3
-unfolding impactSays answerNumbers
-returns-3 c =
-    let k = c .before .before .before .before .before .before in
-    let r = k .before .before in
-    let d = r .before in
-    let answer = d .before .before .before .args .answer .now in
-    case-written answer impactSays impactNumbers (d .if1 .left) (r .impact .ensures) (k .customers .given .1) (c .before .before .put-numbers .ensures)
+    case-answered impactSays (r .impact .ensures) (k .customers .given .1) impactValues _ refl (c .put-numbers .ensures)
 
 pub jubaxendi-impact-spec : {M : Type 1} → statement M
 jubaxendi-impact-spec =
     tie.close
     (tie.spec
+    (search needs)
+    (search needs)
+    refusal-requires
+    (search needs)
+    (search needs)
+    (search needs)
     returns
-    impact-requires
-    enum-known-number
-    put-refusal-requires
-    enum-known-customers
-    slice-aggregate-put-numbers
-    put-numbers-requires
-    same-length
-    returns-2
-    same-length-2
-    returns-3)
+    returns-2)

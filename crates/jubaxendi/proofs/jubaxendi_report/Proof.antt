@@ -1,81 +1,47 @@
-use mathlib.Core.Path.{_∙_}
+use mathlib.Core.Path.{refl}
 use borrow.Author.Needs.{needs}
-use Rattle.model.specs.Calls.{reportSays}
-use Rattle.jubaxendi.specs.Numbers.{answerNumbers, reportNumbers}
-use Rattle.jubaxendi.proofs.Writing.{nothing-written, buffer-stays, buffer-left, case-written}
+use Rattle.model.specs.Calls.{reportSays, written}
+use Rattle.theory.specs.Refusals.{report-bounded}
+use Rattle.jubaxendi.specs.Numbers.{returned, answerLeaves, reportValues}
+use Rattle.jubaxendi.proofs.Writing.{case-bounded, case-answered}
 use Rattle.jubaxendi.proofs.jubaxendi_report.Statement.{statement}
 use Rattle.jubaxendi.proofs.jubaxendi_report.Tie as tie
 
+refusal-requires : tie.Need-refusal-requires
+unfolding reportSays
+refusal-requires c κs =
+    let k = c .before in
+    let r = k .before .before .before .before in
+    let b = case-bounded reportSays (r .report .ensures .0) (k .number .given .1) (report-bounded _ _) in
+    (b .largest, b .below)
+
 returns : tie.Need-returns
+unfolding reportSays returned answerLeaves written
 returns c =
-    let d = c .before .before .before .before .args in
-    let w = nothing-written (d .answer .now) (c .if1 .taken) _ in
-    (w .0, (buffer-stays (d .answer .now) (c .if1 .taken) _ (d .text .now), w .1))
-
-report-requires : tie.Need-report-requires
-report-requires c κs = search needs
-
-enum-known-number : tie.Need-enum-known-number
-enum-known-number c = search needs
-
-put-refusal-requires : tie.Need-put-refusal-requires
-put-refusal-requires c κs = search needs
-
-enum-known-length : tie.Need-enum-known-length
-enum-known-length c = search needs
-
-slice-aggregate-put-numbers : tie.Need-slice-aggregate-put-numbers
-slice-aggregate-put-numbers c = search needs
-
-put-numbers-requires : tie.Need-put-numbers-requires
-put-numbers-requires c κs = search needs
-
-same-length : tie.Need-same-length
-same-length c = search needs
-
-same-length-2 : tie.Need-same-length-2
-same-length-2 c = search needs
+    let k = c .before .before in
+    let r = k .before .before .before .before in
+    let w = case-answered reportSays (r .report .ensures .0) (k .number .given .1) reportValues _ (c .refusal .ensures) refl in
+    (w .0, (r .report .ensures .1, w .1))
 
 returns-2 : tie.Need-returns-2
-unfolding reportSays answerNumbers
+unfolding reportSays returned answerLeaves written
 returns-2 c =
-    let k = c .before .before .before .before .before in
+    let k = c .before .before .before .before in
     let r = k .before .before .before .before in
-    let d = r .before .before in
-    let answer = d .before .before .before .before .args .answer .now in
-    let w = case-written answer reportSays reportNumbers (d .if1 .left) (r .report .ensures .0) (k .number .given .1) (c .before .before .put-refusal .ensures) in
-    (w .0, (r .report .ensures .1 ∙ buffer-left answer (d .if1 .left) _ _, w .1))
-
-same-length-3 : tie.Need-same-length-3
-same-length-3 c = search needs
-
-same-length-4 : tie.Need-same-length-4
-same-length-4 c = search needs
-
-returns-3 : tie.Need-returns-3
-unfolding reportSays answerNumbers
-returns-3 c =
-    let k = c .before .before .before .before .before .before in
-    let r = k .before .before .before .before in
-    let d = r .before .before in
-    let answer = d .before .before .before .before .args .answer .now in
-    let w = case-written answer reportSays reportNumbers (d .if1 .left) (r .report .ensures .0) (k .length .given .1) (c .before .before .put-numbers .ensures) in
-    (w .0, (r .report .ensures .1 ∙ buffer-left answer (d .if1 .left) _ _, w .1))
+    let w = case-answered reportSays (r .report .ensures .0) (k .length .given .1) reportValues _ refl (c .put-numbers .ensures) in
+    (w .0, (r .report .ensures .1, w .1))
 
 pub jubaxendi-report-spec : {M : Type 1} → statement M
 jubaxendi-report-spec =
     tie.close
     (tie.spec
+    (search needs)
+    (search needs)
+    refusal-requires
+    (search needs)
+    (search needs)
+    (search needs)
+    (search needs)
     returns
-    report-requires
-    enum-known-number
-    put-refusal-requires
-    enum-known-length
-    slice-aggregate-put-numbers
-    put-numbers-requires
-    same-length
-    same-length-2
-    returns-2
-    same-length-3
-    same-length-4
-    returns-3)
+    (search needs)
+    returns-2)

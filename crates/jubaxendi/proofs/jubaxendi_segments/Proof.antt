@@ -1,51 +1,47 @@
-use mathlib.Core.Path.{_∙_}
+use mathlib.Core.Path.{refl}
 use borrow.Author.Needs.{needs}
-use Rattle.model.specs.Calls.{segmentsSays}
-use Rattle.jubaxendi.specs.Numbers.{answerNumbers, segmentsNumbers}
-use Rattle.jubaxendi.proofs.Writing.{nothing-written, buffer-stays, buffer-left, case-written}
+use Rattle.model.specs.Calls.{segmentsSays, written}
+use Rattle.theory.specs.Refusals.{segments-bounded}
+use Rattle.jubaxendi.specs.Numbers.{returned, answerLeaves, segmentsValues}
+use Rattle.jubaxendi.proofs.Writing.{case-bounded, case-answered}
 use Rattle.jubaxendi.proofs.jubaxendi_segments.Statement.{statement}
 use Rattle.jubaxendi.proofs.jubaxendi_segments.Tie as tie
 
+refusal-requires : tie.Need-refusal-requires
+unfolding segmentsSays
+refusal-requires c κs =
+    let k = c .before in
+    let r = k .before .before .before .before in
+    let b = case-bounded segmentsSays (r .segments .ensures .0) (k .number .given .1) (segments-bounded _ _) in
+    (b .largest, b .below)
+
 returns : tie.Need-returns
+unfolding segmentsSays returned answerLeaves written
 returns c =
-    let d = c .before .before .before .before .args in
-    let w = nothing-written (d .answer .now) (c .if1 .taken) _ in
-    (w .0, (buffer-stays (d .answer .now) (c .if1 .taken) _ (d .table .now), w .1))
+    let k = c .before .before in
+    let r = k .before .before .before .before in
+    let w = case-answered segmentsSays (r .segments .ensures .0) (k .number .given .1) segmentsValues _ (c .refusal .ensures) refl in
+    (w .0, (r .segments .ensures .1 .0, w .1))
 
 returns-2 : tie.Need-returns-2
-unfolding segmentsSays answerNumbers
+unfolding segmentsSays returned answerLeaves written
 returns-2 c =
-    let k = c .before .before .before .before .before in
+    let k = c .before .before .before .before in
     let r = k .before .before .before .before in
-    let d = r .before .before in
-    let answer = d .before .before .before .before .args .answer .now in
-    let w = case-written answer segmentsSays segmentsNumbers (d .if1 .left) (r .segments .ensures .0) (k .number .given .1) (c .before .before .put-refusal .ensures) in
-    (w .0, (r .segments .ensures .1 .0 ∙ buffer-left answer (d .if1 .left) _ _, w .1))
-
-returns-3 : tie.Need-returns-3
-unfolding segmentsSays answerNumbers
-returns-3 c =
-    let k = c .before .before .before .before .before .before in
-    let r = k .before .before .before .before in
-    let d = r .before .before in
-    let answer = d .before .before .before .before .args .answer .now in
-    let w = case-written answer segmentsSays segmentsNumbers (d .if1 .left) (r .segments .ensures .0) (k .entries .given .1) (c .before .before .put-numbers .ensures) in
-    (w .0, (r .segments .ensures .1 .0 ∙ buffer-left answer (d .if1 .left) _ _, w .1))
+    let w = case-answered segmentsSays (r .segments .ensures .0) (k .entries .given .1) segmentsValues _ refl (c .put-numbers .ensures) in
+    (w .0, (r .segments .ensures .1 .0, w .1))
 
 pub jubaxendi-segments-spec : {M : Type 1} → statement M
 jubaxendi-segments-spec =
     tie.close
     (tie.spec
+    (search needs)
+    (search needs)
+    refusal-requires
+    (search needs)
+    (search needs)
+    (search needs)
+    (search needs)
     returns
     (search needs)
-    (search needs)
-    (search needs)
-    (search needs)
-    (search needs)
-    (search needs)
-    (search needs)
-    (search needs)
-    returns-2
-    (search needs)
-    (search needs)
-    returns-3)
+    returns-2)
