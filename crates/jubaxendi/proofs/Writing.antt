@@ -19,11 +19,11 @@ module _ {A R : Type 0} (says : R → Answer A) {a : Answer A} {r case : R} (e :
   said : says case ≡ a
   said = ap says (sym k) ∙ e
 
-  -- so `case`, where it is a refusal, is one of the bounds of `a`
+  -- `case`, if it is a refusal, is within the bounds that hold for `a`
   pub case-bounded : Bounded a → Bounded (says case)
   case-bounded b = subst Bounded (sym said) b
 
-  -- what it returns and leaves for `case` is what it must for `a`
+  -- what is returned and left for `case` is what is due for `a`
   pub case-answered : (values : A → List ℕ) (answer : List ℕ) {n : ℕ} {after : List ℕ} → n ≡ returned (says case) → after ≡ answerLeaves values (says case) answer
       → (n ≡ returned a) × (after ≡ answerLeaves values a answer)
   case-answered values answer p w = (p ∙ ap returned said, w ∙ ap (λ b. answerLeaves values b answer) said)

@@ -6,12 +6,12 @@ use Rattle.model.specs.Answer.{Answer, given, refused, _>>=_}
 use Rattle.theory.specs.Refusals.{Bounded}
 use Rattle.jubaxendi.specs.Numbers.{returned}
 
--- 0: the call answered; any other number: the refusal
+-- what a returned number says: 0 that the call answered, any other its refusal
 unfoldable pub decoded : ℕ → Answer (Unit {0})
 decoded zero = given tt
 decoded (suc n) = refused (suc n / 65536) (suc n % 65536)
 
--- and so it is for whatever a call returns
+-- what a call returns says whether it answered, and else gives its refusal's number and record
 pub returned-decodes : {A : Type 0} (a : Answer A) → Bounded a → decoded (returned a) ≡ (a >>= λ x. given tt)
 unfolding returned decoded
 returned-decodes (given x) b = refl

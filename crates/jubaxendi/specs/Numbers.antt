@@ -16,8 +16,8 @@ unfolding written
 answerLeaves values a answer = written (a >>= λ x. given (values x)) answer
 
 -- Check has no values.
-abbrev pub checkValues : Unit {0} → List ℕ
-checkValues u = []
+abbrev pub noValues : Unit {0} → List ℕ
+noValues u = []
 
 -- Impact: the customers.
 abbrev pub impactValues : ℕ → List ℕ

@@ -5,7 +5,7 @@ ghost use mathlib.Core.Path.{_≡_};
 ghost use mathlib.Core.List.{_++_};
 ghost use lib.ListN.{length, drop};
 ghost use Rattle.model.specs.Calls.{checked, impactAnswered, totalled, searchAnswered, searchLeaves, reportAnswered, reportLeaves, segmentsAnswered, segmentsLeaves, ceilingAnswered};
-ghost use Rattle.jubaxendi.specs.Numbers.{returned, answerLeaves, checkValues, impactValues, totalValues, searchValues, reportValues, segmentsValues, ceilingValues};
+ghost use Rattle.jubaxendi.specs.Numbers.{returned, answerLeaves, noValues, impactValues, totalValues, searchValues, reportValues, segmentsValues, ceilingValues};
 use model::CeilingAnswer;
 use model::CheckAnswer;
 use model::ImpactAnswer;
@@ -37,7 +37,7 @@ fn put_numbers(numbers: &[u64], answer: &mut [u64])
 #[no_mangle]
 pub extern "C" fn jubaxendi_check(file: &[u8], answer: &mut [u64; 8]) -> u64
     ensures { λ r. ⌜ r ≡ returned (checked (now (file .entry))) ⌝ }
-    ensures { λ r. ⌜ now (answer .exit) ≡ answerLeaves checkValues (checked (now (file .entry))) (now (answer .entry)) ⌝ }
+    ensures { λ r. ⌜ now (answer .exit) ≡ answerLeaves noValues (checked (now (file .entry))) (now (answer .entry)) ⌝ }
 {
     match engine::check(file) {
         CheckAnswer::Refused { number, record } => refusal(number, record),

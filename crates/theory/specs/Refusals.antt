@@ -21,18 +21,19 @@ use Rattle.model.specs.Calls.{checked, impactOf, impactAnswered, totalled, lent
 use Rattle.theory.specs.Reading.{HeadFits, Read, record-fits, head-fits, network-read}
 use Rattle.theory.specs.Sizes.{read-sized}
 
+-- the bounds of a refusal's number and record
 pub record Refusal (number place : ℕ) : Type 0 where
   pub least : 1 ≤ number
   pub largest : number ≤ 16
   pub below : place < 65536
 
--- a refusal of such a number, by computation
+-- a refusal within them, its number by computation
 told : (number place : ℕ) → (leb 1 number && leb number 16) ≡ true → place < 65536 → Refusal number place
 told number place e h =
     let b = and-eq-true-iff (leb 1 number) (leb number 16) .0 e in
     record { least = leb-true 1 number (b .0); largest = leb-true number 16 (b .1); below = h }
 
--- an answer is given, or such a refusal
+-- an answer that is given, or a refusal within the bounds
 abbrev pub Bounded : {A : Type 0} → Answer A → Type 0
 Bounded (given a) = Unit {0}
 Bounded (refused number place) = Refusal number place

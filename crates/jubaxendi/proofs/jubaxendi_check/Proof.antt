@@ -2,7 +2,7 @@ use mathlib.Core.Path.{refl}
 use borrow.Author.Needs.{needs}
 use Rattle.model.specs.Calls.{checkSays, written}
 use Rattle.theory.specs.Refusals.{checked-bounded}
-use Rattle.jubaxendi.specs.Numbers.{returned, answerLeaves, checkValues}
+use Rattle.jubaxendi.specs.Numbers.{returned, answerLeaves, noValues}
 use Rattle.jubaxendi.proofs.Writing.{case-bounded, case-answered}
 use Rattle.jubaxendi.proofs.jubaxendi_check.Statement.{statement}
 use Rattle.jubaxendi.proofs.jubaxendi_check.Tie as tie
@@ -20,13 +20,13 @@ unfolding checkSays returned answerLeaves written
 returns c =
     let k = c .before .before in
     let r = k .before .before in
-    case-answered checkSays (r .check .ensures) (k .number .given .1) checkValues _ (c .refusal .ensures) refl
+    case-answered checkSays (r .check .ensures) (k .number .given .1) noValues _ (c .refusal .ensures) refl
 
 returns-2 : tie.Need-returns-2
 unfolding checkSays returned answerLeaves written
 returns-2 c =
     let r = c .before .before in
-    case-answered checkSays (r .check .ensures) (c .enum-told .given .1) checkValues _ refl refl
+    case-answered checkSays (r .check .ensures) (c .enum-told .given .1) noValues _ refl refl
 
 pub jubaxendi-check-spec : {M : Type 1} → statement M
 jubaxendi-check-spec =
