@@ -16,7 +16,7 @@ use Rattle.model.specs.Network.{Network}
 use Rattle.model.specs.Demand.{Answered}
 use Rattle.theory.specs.Best.{accepted-is, search-answered}
 use Rattle.engine.proofs.Lending.{lent-short, lent-enough}
-use Rattle.engine.specs.Found.{fileFound, foundBy, AtMost16}
+use Rattle.answers.specs.Found.{fileFound, foundBy, AtMost16}
 
 module _ (file buffer : List ℕ) where
   -- the three claims of an answer and the buffer that it leaves

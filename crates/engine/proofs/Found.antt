@@ -1,7 +1,6 @@
--- What a search found, and its answer.
-use Prim.Native.Nat.{ℕ, _≤_}
-use mathlib.Core.Path.{_≡_, sym, ap, _∙_}
-use mathlib.Core.Bool.{true, false}
+-- What the search of a file finds.
+use Prim.Native.Nat.{ℕ}
+use mathlib.Core.Path.{_≡_, ap, _∙_}
 use mathlib.Core.List.{List}
 use lib.ListN.{take}
 use Rattle.model.specs.Answer.{given}
@@ -13,21 +12,12 @@ use Rattle.buffer.specs.Buffer.{networkIn}
 use Rattle.search.specs.Walking.{foundIn}
 use Rattle.search.specs.declared.Progress.{Progress}
 use Rattle.loading.specs.Loading.{before, loaded}
-use Rattle.engine.specs.Found.{fileFound, foundBy, AtMost16}
+use Rattle.answers.specs.Found.{fileFound, foundBy, AtMost16}
 use Rattle.loading.proofs.Loads.{answered, same-answer}
 
 -- what was found, with its total as a number
 pub found-is : (p : Progress) (best : List ℕ) {total : ℕ} → total ≡ p .best .0 → _≡_ {A = Found} (record { members = take (p .count) best; best = total; visits = p .visits; spent = p .spent }) (foundIn p best)
 found-is p best t = λ i. record { members = take (p .count) best; best = t i; visits = p .visits; spent = p .spent }
-
-module _ (p : Progress) (few : p .count ≤ 16) {total : ℕ} (t : total ≡ p .best .0) where
-  pub answer-spent : p .spent ≡ true → ((best : List ℕ) → foundBy (SearchAnswer.Spent (p .count) total (p .visits)) best ≡ given (foundIn p best)) × AtMost16 (SearchAnswer.Spent (p .count) total (p .visits))
-  unfolding foundBy AtMost16
-  answer-spent e = (λ best. λ i. given (record { members = take (p .count) best; best = t i; visits = p .visits; spent = sym e i }), few)
-
-  pub answer-finished : p .spent ≡ false → ((best : List ℕ) → foundBy (SearchAnswer.Finished (p .count) total (p .visits)) best ≡ given (foundIn p best)) × AtMost16 (SearchAnswer.Finished (p .count) total (p .visits))
-  unfolding foundBy AtMost16
-  answer-finished e = (λ best. λ i. given (record { members = take (p .count) best; best = t i; visits = p .visits; spent = sym e i }), few)
 
 module _ (file b : List ℕ) (r : CheckAnswer) (h : loaded r b ≡ accepted file) where
   pub found-refused : {n i : ℕ} (best : List ℕ) → r ≡ CheckAnswer.Refused n i → (foundBy (SearchAnswer.Refused n i) best ≡ fileFound file) × AtMost16 (SearchAnswer.Refused n i)

@@ -1,5 +1,4 @@
 pub mod Answers
-pub mod Members
 pub mod Found
 pub mod Calling
 pub mod Lending

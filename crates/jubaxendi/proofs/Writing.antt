@@ -1,18 +1,10 @@
 -- What a call returns and leaves in `answer`, from the case that the engine answered.
 use Prim.Native.Nat.{ℕ}
 use mathlib.Core.Path.{_≡_, sym, ap, _∙_, subst}
-use mathlib.Core.List.{List, _++_}
-use lib.ListN.{length, take, drop}
-use lib.Seq.{take-length}
+use mathlib.Core.List.{List}
 use Rattle.model.specs.Answer.{Answer}
-use Rattle.engine.proofs.Members.{Put, put-all}
 use Rattle.theory.specs.Refusals.{Bounded}
 use Rattle.jubaxendi.specs.Numbers.{returned, answerLeaves}
-
--- all numbers are written
-pub put-whole : (numbers answer₀ : List ℕ) (i : ℕ) (answer : List ℕ) → i ≡ length numbers → Put numbers answer₀ i answer → answer ≡ numbers ++ drop (length numbers) answer₀
-put-whole numbers answer₀ i answer e p =
-    put-all numbers answer₀ i answer p ∙ ap (λ n. take n numbers ++ drop n answer₀) e ∙ ap (λ ns. ns ++ drop (length numbers) answer₀) (take-length numbers)
 
 -- the engine answered `case`, which says `a`
 module _ {A R : Type 0} (says : R → Answer A) {a : Answer A} {r case : R} (e : says r ≡ a) (k : r ≡ case) where

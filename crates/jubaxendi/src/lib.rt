@@ -1,9 +1,6 @@
 // The calls for programs in other languages. Each returns 0 if it answered, else the refusal as one number, and writes what it
 // answers at the start of a lent list of eight numbers, `answer`, whose rest stays. A refused call writes nothing.
-ghost use Prim.Native.Nat.{_+_, _*_, _≤_, _<_};
 ghost use mathlib.Core.Path.{_≡_};
-ghost use mathlib.Core.List.{_++_};
-ghost use lib.ListN.{length, drop};
 ghost use Rattle.model.specs.Calls.{checked, impactAnswered, totalled, searchAnswered, searchLeaves, reportAnswered, reportLeaves, segmentsAnswered, segmentsLeaves, ceilingAnswered};
 ghost use Rattle.jubaxendi.specs.Numbers.{returned, answerLeaves, noValues, impactValues, totalValues, searchValues, reportValues, segmentsValues, ceilingValues};
 use model::CeilingAnswer;
@@ -14,25 +11,6 @@ use model::SearchAnswer;
 use model::SegmentsAnswer;
 use model::TotalAnswer;
 
-// A refusal as one number.
-fn refusal(number: u64, record: u64) -> u64
-    requires { ⌜ number ≤ 16 ⌝ }
-    requires { ⌜ «record» < 65536 ⌝ }
-    ensures { λ r. ⌜ r ≡ number * 65536 + «record» ⌝ }
-{
-    number * 65536 + record
-}
-
-// Writes numbers at the start of `answer`.
-fn put_numbers(numbers: &[u64], answer: &mut [u64])
-    requires { ⌜ length (now numbers) ≤ length (now answer) ⌝ }
-    ensures { λ r. ⌜ now (answer .exit) ≡ now (numbers .entry) ++ drop (length (now (numbers .entry))) (now (answer .entry)) ⌝ }
-{
-    for i in 0..numbers.len() {
-        answer[i] = numbers[i];
-    }
-}
-
 // Check: no values.
 #[no_mangle]
 pub extern "C" fn jubaxendi_check(file: &[u8], answer: &mut [u64; 8]) -> u64
@@ -40,7 +18,7 @@ pub extern "C" fn jubaxendi_check(file: &[u8], answer: &mut [u64; 8]) -> u64
     ensures { λ r. ⌜ now (answer .exit) ≡ answerLeaves noValues (checked (now (file .entry))) (now (answer .entry)) ⌝ }
 {
     match engine::check(file) {
-        CheckAnswer::Refused { number, record } => refusal(number, record),
+        CheckAnswer::Refused { number, record } => answers::refusal(number, record),
         CheckAnswer::Accepted => 0,
     }
 }
@@ -52,9 +30,9 @@ pub extern "C" fn jubaxendi_impact(file: &[u8], line: u64, answer: &mut [u64; 8]
     ensures { λ r. ⌜ now (answer .exit) ≡ answerLeaves impactValues (impactAnswered (now (file .entry)) line) (now (answer .entry)) ⌝ }
 {
     match engine::impact(file, line) {
-        ImpactAnswer::Refused { number, record } => refusal(number, record),
+        ImpactAnswer::Refused { number, record } => answers::refusal(number, record),
         ImpactAnswer::Customers(customers) => {
-            put_numbers(&[customers], answer);
+            answers::put_numbers(&[customers], 1, answer);
             0
         }
     }
@@ -67,9 +45,9 @@ pub extern "C" fn jubaxendi_total(file: &[u8], answer: &mut [u64; 8]) -> u64
     ensures { λ r. ⌜ now (answer .exit) ≡ answerLeaves totalValues (totalled (now (file .entry))) (now (answer .entry)) ⌝ }
 {
     match engine::total(file) {
-        TotalAnswer::Refused { number, record } => refusal(number, record),
+        TotalAnswer::Refused { number, record } => answers::refusal(number, record),
         TotalAnswer::Outage { total, figure } => {
-            put_numbers(&[total, figure], answer);
+            answers::put_numbers(&[total, figure], 2, answer);
             0
         }
     }
@@ -84,13 +62,13 @@ pub extern "C" fn jubaxendi_search(file: &[u8], members: &mut [u64], answer: &mu
     ensures { λ r. ⌜ now (answer .exit) ≡ answerLeaves searchValues (searchAnswered (now (file .entry)) (now (members .entry))) (now (answer .entry)) ⌝ }
 {
     match engine::search(file, members) {
-        SearchAnswer::Refused { number, record } => refusal(number, record),
+        SearchAnswer::Refused { number, record } => answers::refusal(number, record),
         SearchAnswer::Finished {
             members: count,
             total,
             visits,
         } => {
-            put_numbers(&[1, count as u64, total, visits], answer);
+            answers::put_numbers(&[1, count as u64, total, visits], 4, answer);
             0
         }
         SearchAnswer::Spent {
@@ -98,7 +76,7 @@ pub extern "C" fn jubaxendi_search(file: &[u8], members: &mut [u64], answer: &mu
             total,
             visits,
         } => {
-            put_numbers(&[0, count as u64, total, visits], answer);
+            answers::put_numbers(&[0, count as u64, total, visits], 4, answer);
             0
         }
     }
@@ -112,9 +90,9 @@ pub extern "C" fn jubaxendi_report(file: &[u8], text: &mut [u8], answer: &mut [u
     ensures { λ r. ⌜ now (answer .exit) ≡ answerLeaves reportValues (reportAnswered (now (file .entry)) (now (text .entry))) (now (answer .entry)) ⌝ }
 {
     match engine::report(file, text) {
-        ReportAnswer::Refused { number, record } => refusal(number, record),
+        ReportAnswer::Refused { number, record } => answers::refusal(number, record),
         ReportAnswer::Written(length) => {
-            put_numbers(&[length as u64], answer);
+            answers::put_numbers(&[length as u64], 1, answer);
             0
         }
     }
@@ -128,9 +106,9 @@ pub extern "C" fn jubaxendi_segments(file: &[u8], table: &mut [u64], answer: &mu
     ensures { λ r. ⌜ now (answer .exit) ≡ answerLeaves segmentsValues (segmentsAnswered (now (file .entry)) (now (table .entry))) (now (answer .entry)) ⌝ }
 {
     match engine::segments(file, table) {
-        SegmentsAnswer::Refused { number, record } => refusal(number, record),
+        SegmentsAnswer::Refused { number, record } => answers::refusal(number, record),
         SegmentsAnswer::Entries(entries) => {
-            put_numbers(&[entries as u64], answer);
+            answers::put_numbers(&[entries as u64], 1, answer);
             0
         }
     }
@@ -143,9 +121,9 @@ pub extern "C" fn jubaxendi_ceiling(places: u64, additions: u64, answer: &mut [u
     ensures { λ r. ⌜ now (answer .exit) ≡ answerLeaves ceilingValues (ceilingAnswered places additions) (now (answer .entry)) ⌝ }
 {
     match binomials::ceiling(places, additions) {
-        CeilingAnswer::Refused { number, record } => refusal(number, record),
+        CeilingAnswer::Refused { number, record } => answers::refusal(number, record),
         CeilingAnswer::Sets(sets) => {
-            put_numbers(&[sets], answer);
+            answers::put_numbers(&[sets], 1, answer);
             0
         }
     }

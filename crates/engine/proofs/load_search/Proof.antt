@@ -5,7 +5,7 @@ use Rattle.engine.proofs.load_search.Statement.{statement}
 use Rattle.engine.proofs.load_search.Tie as tie
 use Rattle.engine.proofs.load_search.Reads as reads
 use Rattle.engine.proofs.load_search.Lts as lts
-use Rattle.engine.proofs.found_answer.Reads as found-answer-reads
+use Rattle.answers.proofs.found_answer.Reads as found-answer-reads
 use Rattle.loading.proofs.stations_space.Reads as stations-space-reads
 use Rattle.loading.proofs.lines_space.Reads as lines-space-reads
 use Rattle.loading.proofs.load.Reads as load-reads

@@ -1,13 +1,14 @@
 use mathlib.Core.Path.{_≡_, sym, subst}
-use Rattle.engine.specs.Found.{fileFound, foundBy, AtMost16}
+use Rattle.answers.specs.Found.{fileFound, foundBy, AtMost16}
 use Rattle.engine.proofs.Calling.{Claims, short-refused, file-refused, file-finished, file-spent}
+use native.Mathlib.Omega.{arith}
 use borrow.Author.Needs.{needs}
 use Rattle.engine.proofs.search.Statement.{statement}
 use Rattle.engine.proofs.search.Tie as tie
 use Rattle.engine.proofs.search.Reads as reads
 use Rattle.engine.proofs.search.Lts as lts
 use Rattle.engine.proofs.load_search.Reads as load-search-reads
-use Rattle.engine.proofs.put_members.Reads as put-members-reads
+use Rattle.answers.proofs.put_numbers.Reads as put-numbers-reads
 
 returns : tie.Need-returns
 returns c = short-refused (c .before .before .before .before .args .file .now) (c .before .before .before .before .args .members .now) (c .before .short-members .ensures .0 (c .if1 .taken))
@@ -21,20 +22,22 @@ enum-told c = search needs
 enum-known-answer : tie.Need-enum-known-answer
 enum-known-answer c = search needs
 
-put-members-requires : tie.Need-put-members-requires
+put-numbers-requires : tie.Need-put-numbers-requires
 unfolding AtMost16
-put-members-requires c κs =
+put-numbers-requires c κs =
     let l = c .before .before .before .before .before in
-    (l .load-search .ensures .2, subst AtMost16 (c .before .before .before .answer .given .1) (l .load-search .ensures .1), l .before .before .before .short-members .ensures .1 (l .before .before .if1 .left))
+    let few = subst AtMost16 (c .before .before .before .answer .given .1) (l .load-search .ensures .1) in
+    (omega (arith, few, l .load-search .ensures .2), omega (arith, few, l .before .before .before .short-members .ensures .1 (l .before .before .if1 .left)))
 
 enum-known-answer-2 : tie.Need-enum-known-answer-2
 enum-known-answer-2 c = search needs
 
-put-members-requires-2 : tie.Need-put-members-requires-2
+put-numbers-requires-2 : tie.Need-put-numbers-requires-2
 unfolding AtMost16
-put-members-requires-2 c κs =
+put-numbers-requires-2 c κs =
     let l = c .before .before .before .before .before in
-    (l .load-search .ensures .2, subst AtMost16 (c .before .before .before .answer2 .given .1) (l .load-search .ensures .1), l .before .before .before .short-members .ensures .1 (l .before .before .if1 .left))
+    let few = subst AtMost16 (c .before .before .before .answer2 .given .1) (l .load-search .ensures .1) in
+    (omega (arith, few, l .load-search .ensures .2), omega (arith, few, l .before .before .before .short-members .ensures .1 (l .before .before .if1 .left)))
 
 returns-2 : tie.Need-returns-2
 returns-2 c =
@@ -54,7 +57,7 @@ returns-3 c =
     let g = c .before .before .before .before .before .before .answer .given in
     let best = l .load-search .last .1 .0 in
     file-finished (a .file .now) (a .members .now) (l .before .before .before .short-members .ensures .1 (l .before .before .if1 .left)) (g .0 .0) (g .0 .1 .0) (g .0 .1 .1 .0) best _
-    (subst AtMost16 (g .1) (l .load-search .ensures .1)) (l .load-search .ensures .2) (c .before .before .put-members .ensures) (subst (λ r. foundBy r best ≡ fileFound (a .file .now)) (g .1) (l .load-search .ensures .0))
+    (subst AtMost16 (g .1) (l .load-search .ensures .1)) (l .load-search .ensures .2) (c .before .before .put-numbers .ensures) (subst (λ r. foundBy r best ≡ fileFound (a .file .now)) (g .1) (l .load-search .ensures .0))
 
 same-length-2 : tie.Need-same-length-2
 same-length-2 c = search needs
@@ -66,7 +69,7 @@ returns-4 c =
     let g = c .before .before .before .before .before .before .answer2 .given in
     let best = l .load-search .last .1 .0 in
     file-spent (a .file .now) (a .members .now) (l .before .before .before .short-members .ensures .1 (l .before .before .if1 .left)) (g .0 .0) (g .0 .1 .0) (g .0 .1 .1 .0) best _
-    (subst AtMost16 (g .1) (l .load-search .ensures .1)) (l .load-search .ensures .2) (c .before .before .put-members2 .ensures) (subst (λ r. foundBy r best ≡ fileFound (a .file .now)) (g .1) (l .load-search .ensures .0))
+    (subst AtMost16 (g .1) (l .load-search .ensures .1)) (l .load-search .ensures .2) (c .before .before .put-numbers2 .ensures) (subst (λ r. foundBy r best ≡ fileFound (a .file .now)) (g .1) (l .load-search .ensures .0))
 
 pub search-spec : {M : Type 1} → statement M
 search-spec =
@@ -77,9 +80,11 @@ search-spec =
     load-search-requires
     enum-told
     enum-known-answer
-    put-members-requires
+    (search needs)
+    put-numbers-requires
     enum-known-answer-2
-    put-members-requires-2
+    (search needs)
+    put-numbers-requires-2
     returns-2
     same-length
     returns-3

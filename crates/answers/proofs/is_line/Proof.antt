@@ -2,8 +2,8 @@ use mathlib.Core.Logic.{inl, inr}
 use native.Mathlib.Omega.{arith}
 use borrow.Author.Tests.{leb-true, leb-false}
 use borrow.Author.Needs.{needs}
-use Rattle.engine.proofs.is_line.Statement.{statement}
-use Rattle.engine.proofs.is_line.Tie as tie
+use Rattle.answers.proofs.is_line.Statement.{statement}
+use Rattle.answers.proofs.is_line.Tie as tie
 
 returns : tie.Need-returns
 returns c =

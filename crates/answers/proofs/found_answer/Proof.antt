@@ -1,6 +1,6 @@
-use Rattle.engine.proofs.Found.{answer-spent, answer-finished}
-use Rattle.engine.proofs.found_answer.Statement.{statement}
-use Rattle.engine.proofs.found_answer.Tie as tie
+use Rattle.answers.proofs.Outcomes.{answer-spent, answer-finished}
+use Rattle.answers.proofs.found_answer.Statement.{statement}
+use Rattle.answers.proofs.found_answer.Tie as tie
 
 number-requires : tie.Need-number-requires
 number-requires c κs = tt

@@ -1,0 +1,80 @@
+// Steps of the calls that are the same for every file: whether what is lent is too short, whether a number is a line's, the answer to
+// what a search found, and numbers written at the start of what is lent.
+ghost use mathlib.Core.Path.{_≡_};
+ghost use mathlib.Core.Bool.{true, false};
+ghost use mathlib.Core.Logic.{_⊎_};
+ghost use mathlib.Core.List.{List, _++_};
+ghost use Prim.Native.Nat.{ℕ, _+_, _*_, _≤_, _<_};
+ghost use lib.ListN.{length, take, drop};
+ghost use Rattle.model.specs.Answer.{given};
+ghost use Rattle.buffer.specs.Buffer.{networkIn};
+ghost use Rattle.search.specs.Walking.{foundIn};
+ghost use Rattle.answers.specs.Found.{foundBy, AtMost16};
+use model::SearchAnswer;
+use search::Progress;
+
+// Whether a number is a line's.
+pub fn is_line(net: &[u64; 5129], line: u64) -> bool
+    ensures { λ r. ⌜ (r ≡ true → (1 ≤ line) × (line ≤ length (networkIn (now (net .entry)) .lines))) × (r ≡ false → (line < 1) ⊎ (length (networkIn (now (net .entry)) .lines) < line)) ⌝ }
+{
+    1 <= line && line <= buffer::lines(net) as u64
+}
+
+// Writes the first `count` numbers of a list at the start of what is lent.
+pub fn put_numbers(list: &[u64], count: usize, lent: &mut [u64])
+    requires { ⌜ (count ≤ length (now list)) × (count ≤ length (now lent)) ⌝ }
+    ensures { λ r. ⌜ now (lent .exit) ≡ take count (now (list .entry)) ++ drop count (now (lent .entry)) ⌝ }
+{
+    for i in 0..count {
+        lent[i] = list[i];
+    }
+}
+
+// The answer to what a search found.
+pub fn found_answer(found: Progress) -> SearchAnswer
+    requires { ⌜ found .count ≤ 16 ⌝ }
+    ensures { λ r. ⌜ ((best : List ℕ) → foundBy r best ≡ given (foundIn found best)) × AtMost16 r ⌝ }
+{
+    let total = found.best.number();
+    if found.spent {
+        return SearchAnswer::Spent {
+            members: found.count,
+            total,
+            visits: found.visits,
+        };
+    }
+    SearchAnswer::Finished {
+        members: found.count,
+        total,
+        visits: found.visits,
+    }
+}
+
+// Whether a lent list is too short for the members of a set.
+pub fn short_members(room: usize) -> bool
+    ensures { λ r. ⌜ (r ≡ true → room < 16) × (r ≡ false → 16 ≤ room) ⌝ }
+{
+    room < 16
+}
+
+// Whether a lent text is too short for every report.
+pub fn short_text(room: usize) -> bool
+    ensures { λ r. ⌜ (r ≡ true → room < 32768) × (r ≡ false → 32768 ≤ room) ⌝ }
+{
+    room < 32768
+}
+
+// Whether a lent table is too short: the longest has five numbers for each end of 768 lines.
+pub fn short_table(room: usize) -> bool
+    ensures { λ r. ⌜ (r ≡ true → room < 7680) × (r ≡ false → 7680 ≤ room) ⌝ }
+{
+    room < 7680
+}
+
+// A refusal as one number, for programs in other languages.
+pub fn refusal(number: u64, record: u64) -> u64
+    requires { ⌜ (number ≤ 16) × («record» < 65536) ⌝ }
+    ensures { λ r. ⌜ r ≡ number * 65536 + «record» ⌝ }
+{
+    number * 65536 + record
+}
