@@ -6,10 +6,11 @@ use native.Mathlib.Decide.{ℕ-discrete}
 use native.Mathlib.Omega.{arith}
 use Rattle.model.specs.Lists.{numbers, firstOr}
 
--- none of the first i numbers passes
-pub record Passed (test : ℕ → Bool) (n i : ℕ) : Type 0 where
-  pub inside : i ≤ n
-  pub none : (k : ℕ) → 1 ≤ k → k ≤ i → test k ≡ false
+-- none of the numbers before k passes
+pub record Passed (test : ℕ → Bool) (n k : ℕ) : Type 0 where
+  pub low : 1 ≤ k
+  pub inside : k ≤ n + 1
+  pub none : (j : ℕ) → 1 ≤ j → j < k → test j ≡ false
 
 module _ (test : ℕ → Bool) where
   pick : ℕ → Bool → ℕ → ℕ
@@ -45,19 +46,20 @@ module _ (test : ℕ → Bool) where
   pub first-zero : (n : ℕ) → firstOr 0 test (numbers 1 n) ≡ 0 → (k : ℕ) → 1 ≤ k → k ≤ n → test k ≡ false
   first-zero n z k a b = none-from 1 n k (omega arith) z a (omega arith)
 
-  module _ (n : ℕ) where
-    pub passed-start : Passed test n 0
-    passed-start = record { inside = omega arith; none = λ k a b. absurd (omega arith) }
+  pub passed-start : (n : ℕ) → Passed test n 1
+  passed-start n = record { low = omega arith; inside = omega arith; none = λ j a b. absurd (omega arith) }
 
-    pub passed-next : (i : ℕ) → i < n → Passed test n i → test (i + 1) ≡ false → Passed test n (i + 1)
-    passed-next i l p e = record { inside = omega arith; none = λ k a b. go k a b (ℕ-discrete k (i + 1)) }
-      where
-        go : (k : ℕ) → 1 ≤ k → k ≤ i + 1 → Dec (k ≡ i + 1) → test k ≡ false
-        go k a b (yes q) = ap test q ∙ e
-        go k a b (no q) = p .none k a (omega arith)
+-- number k follows
+module _ {test : ℕ → Bool} {n k : ℕ} (p : Passed test n k) where
+  pub passed-next : k ≤ n → test k ≡ false → Passed test n (k + 1)
+  passed-next l e = record { low = omega arith; inside = omega arith; none = λ j a b. go j a b (ℕ-discrete j k) }
+    where
+      go : (j : ℕ) → 1 ≤ j → j < k + 1 → Dec (j ≡ k) → test j ≡ false
+      go j a b (yes q) = ap test q ∙ e
+      go j a b (no q) = p .none j a (omega arith)
 
-    pub passed-here : (i : ℕ) → i < n → Passed test n i → test (i + 1) ≡ true → i + 1 ≡ firstOr 0 test (numbers 1 n)
-    passed-here i l p e = sym (first-at 1 n (i + 1) (omega arith) (omega arith) (λ j a b. p .none j a (omega arith)) e)
+  pub passed-here : k ≤ n → test k ≡ true → k ≡ firstOr 0 test (numbers 1 n)
+  passed-here l e = sym (first-at test 1 n k (p .low) (omega arith) (p .none) e)
 
-    pub passed-end : (i : ℕ) → n ≤ i → Passed test n i → 0 ≡ firstOr 0 test (numbers 1 n)
-    passed-end i l p = sym (first-none 1 n (λ j a b. p .none j a (omega arith)))
+  pub passed-end : n < k → 0 ≡ firstOr 0 test (numbers 1 n)
+  passed-end l = sym (first-none test 1 n (λ j a b. p .none j a (omega arith)))

@@ -1,5 +1,3 @@
-pub mod Fields
 pub mod First
-pub mod Tests
 pub mod Run
 pub mod Stations

@@ -6,7 +6,7 @@ use mathlib.Core.Logic.{_≢_}
 use mathlib.Core.List.{List}
 use native.Mathlib.Decide.{ℕ-discrete, decLt}
 use native.Mathlib.Omega.{arith}
-use lib.ListN.{length, getD, set}
+use lib.ListN.{length, getD, set, length-set}
 use lib.Seq.{getD-set-same, getD-set-other}
 use Rattle.model.specs.Network.{Network}
 use Rattle.model.specs.Paths.{isHV}
@@ -45,85 +45,88 @@ module _ (x y i : ℕ) (before labels : List ℕ) (r : Renamed x y i before labe
       go k b (yes e) = subst (λ n. getD (set labels i y) n 0 ≡ relabel x y (getD before n 0)) (sym e) (getD-set-same labels i y 0 l ∙ sym (relabel-same x y (getD before i 0) (sym here ∙ d)))
       go k b (no e) = getD-set-other labels i k y 0 e ∙ r .done k (omega arith)
 
--- of the stations 1 to s, the labels of the HV stations are marked by 1, and no others
+-- of the stations before s, the labels of the HV stations are marked by 1, and no others
 pub record Marked (N : Network) (labels : List ℕ) (s : ℕ) (marks : List ℕ) : Type 0 where
-  pub on : (h : ℕ) → h ≤ s → isHV N h ≡ true → getD marks (labelOf labels h) 0 ≡ 1
-  pub back : (x : ℕ) → getD marks x 0 ≡ 1 → (h : ℕ) × (h ≤ s) × (isHV N h ≡ true) × (labelOf labels h ≡ x)
+  pub long : length marks ≡ 513
+  pub on : (h : ℕ) → h < s → isHV N h ≡ true → getD marks (labelOf labels h) 0 ≡ 1
+  pub back : (x : ℕ) → getD marks x 0 ≡ 1 → (h : ℕ) × (h < s) × (isHV N h ≡ true) × (labelOf labels h ≡ x)
 
--- of the stations 1 to s, no two HV stations have one label
+-- of the stations before s, no two HV stations have one label
 pub record Apart (N : Network) (labels : List ℕ) (s : ℕ) : Type 0 where
-  pub differ : (g h : ℕ) → g < h → h ≤ s → isHV N g ≡ true → isHV N h ≡ true → labelOf labels g ≢ labelOf labels h
+  pub differ : (g h : ℕ) → g < h → h < s → isHV N g ≡ true → isHV N h ≡ true → labelOf labels g ≢ labelOf labels h
 
-module _ (N : Network) (d : Read N) (labels : List ℕ) where
-  label-at : (s : ℕ) → labelOf labels (s + 1) ≡ getD labels s 0
-  label-at s = ap (λ n. getD labels n 0) (omega arith)
+not-last : (N : Network) (s h : ℕ) → isHV N s ≡ false → h < s + 1 → isHV N h ≡ true → h < s
+not-last N s h q b p = go (ℕ-discrete h s)
+  where
+    go : Dec (h ≡ s) → h < s
+    go (yes e) = absurd (true≢false (sym p ∙ ap (isHV N) e ∙ q))
+    go (no e) = omega arith
 
-  -- a label is at most the number of stations
-  pub label-low : (k : ℕ) → Labelled N k labels → (s : ℕ) → s < length (N .stations) → getD labels s 0 ≤ 512
-  label-low k L s h = omega (arith, L .low (s + 1) (omega arith) (omega arith), label-at s, d .stationCount, d .head .stations .high)
+-- station s follows
+module _ {N : Network} {labels : List ℕ} {s : ℕ} where
+  pub apart-skip : Apart N labels s → isHV N s ≡ false → Apart N labels (s + 1)
+  apart-skip a q = record { differ = λ g h b c p r. a .differ g h b (not-last N s h q c r) p r }
 
-  pub marked-start : (marks : List ℕ) → ((x : ℕ) → getD marks x 0 ≡ 0) → Marked N labels 0 marks
-  marked-start marks z = record {
+  module _ {marks : List ℕ} (m : Marked N labels s marks) where
+    pub marked-skip : isHV N s ≡ false → Marked N labels (s + 1) marks
+    marked-skip q = record {
+      long = m .long;
+      on = λ h b p. m .on h (not-last N s h q b p) p;
+      back = λ x e. let t = m .back x e in (t .0, omega (arith, t .1), t .2, t .3);
+    }
+
+    -- the label of station s
+    module _ {x : ℕ} (e : x ≡ labelOf labels s) where
+      pub marked-set : isHV N s ≡ true → x ≤ 512 → Marked N labels (s + 1) (set marks x 1)
+      marked-set q l = record {
+        long = length-set marks x 1 ∙ m .long;
+        on = λ h b p. on h b p (ℕ-discrete (labelOf labels h) x);
+        back = λ y r. back y r (ℕ-discrete y x);
+      }
+        where
+          on : (h : ℕ) → h < s + 1 → isHV N h ≡ true → Dec (labelOf labels h ≡ x) → getD (set marks x 1) (labelOf labels h) 0 ≡ 1
+          on h b p (yes t) = ap (λ n. getD (set marks x 1) n 0) t ∙ getD-set-same marks x 1 0 (omega (arith, m .long))
+          on h b p (no t) = getD-set-other marks x (labelOf labels h) 1 0 t ∙ m .on h (go (ℕ-discrete h s)) p
+            where
+              go : Dec (h ≡ s) → h < s
+              go (yes u) = absurd (t (ap (labelOf labels) u ∙ sym e))
+              go (no u) = omega arith
+
+          back : (y : ℕ) → getD (set marks x 1) y 0 ≡ 1 → Dec (y ≡ x) → (h : ℕ) × (h < s + 1) × (isHV N h ≡ true) × (labelOf labels h ≡ y)
+          back y r (yes t) = (s, omega arith, q, sym e ∙ sym t)
+          back y r (no t) = let u = m .back y (sym (getD-set-other marks x y 1 0 t) ∙ r) in (u .0, omega (arith, u .1), u .2, u .3)
+
+      pub apart-next : Apart N labels s → getD marks x 0 ≢ 1 → Apart N labels (s + 1)
+      apart-next a z = record { differ = λ g h b c p r. go g h b c p r (ℕ-discrete h s) }
+        where
+          go : (g h : ℕ) → g < h → h < s + 1 → isHV N g ≡ true → isHV N h ≡ true → Dec (h ≡ s) → labelOf labels g ≢ labelOf labels h
+          go g h b c p r (yes u) = λ t. z (ap (λ n. getD marks n 0) (e ∙ sym (t ∙ ap (labelOf labels) u)) ∙ m .on g (omega arith) p)
+          go g h b c p r (no u) = a .differ g h b (omega arith) p r
+
+module _ {N : Network} (d : Read N) where
+  pub marked-start : (labels marks : List ℕ) → length marks ≡ 513 → ((x : ℕ) → getD marks x 0 ≡ 0) → Marked N labels 1 marks
+  marked-start labels marks l z = record {
+    long = l;
     on = λ h b p. absurd (omega (arith, hv-in N d h p .0));
     back = λ x e. absurd (omega (arith, e, z x));
   }
 
-  -- station s + 1 follows
-  module _ (s : ℕ) (marks : List ℕ) (m : Marked N labels s marks) where
-    pub marked-skip : isHV N (s + 1) ≡ false → Marked N labels (s + 1) marks
-    marked-skip q = record {
-      on = λ h b p. m .on h (not-last h b p (ℕ-discrete h (s + 1))) p;
-      back = λ x e. let t = m .back x e in (t .0, omega (arith, t .1), t .2, t .3);
-    }
-      where
-        not-last : (h : ℕ) → h ≤ s + 1 → isHV N h ≡ true → Dec (h ≡ s + 1) → h ≤ s
-        not-last h b p (yes e) = absurd (true≢false (sym p ∙ ap (isHV N) e ∙ q))
-        not-last h b p (no e) = omega arith
+  pub apart-start : (labels : List ℕ) → Apart N labels 1
+  apart-start labels = record { differ = λ g h b c p r. absurd (omega (arith, hv-in N d g p .0)) }
 
-    pub marked-set : isHV N (s + 1) ≡ true → getD labels s 0 < length marks → Marked N labels (s + 1) (set marks (getD labels s 0) 1)
-    marked-set q l = record {
-      on = λ h b p. on h b p (ℕ-discrete (labelOf labels h) (getD labels s 0));
-      back = λ x e. back x e (ℕ-discrete x (getD labels s 0));
-    }
-      where
-        on : (h : ℕ) → h ≤ s + 1 → isHV N h ≡ true → Dec (labelOf labels h ≡ getD labels s 0) → getD (set marks (getD labels s 0) 1) (labelOf labels h) 0 ≡ 1
-        on h b p (yes e) = ap (λ n. getD (set marks (getD labels s 0) 1) n 0) e ∙ getD-set-same marks (getD labels s 0) 1 0 l
-        on h b p (no e) = getD-set-other marks (getD labels s 0) (labelOf labels h) 1 0 e ∙ m .on h (earlier (ℕ-discrete h (s + 1))) p
-          where
-            earlier : Dec (h ≡ s + 1) → h ≤ s
-            earlier (yes t) = absurd (e (ap (labelOf labels) t ∙ label-at s))
-            earlier (no t) = omega arith
+  module _ {labels : List ℕ} (L : Labelled N (length (N .lines)) labels) where
+    -- a label is at most the number of stations
+    pub label-low : (s : ℕ) → 1 ≤ s → s ≤ length (N .stations) → labelOf labels s ≤ 512
+    label-low s a b = omega (arith, L .low s a b, d .stationCount, d .head .stations .high)
 
-        back : (x : ℕ) → getD (set marks (getD labels s 0) 1) x 0 ≡ 1 → Dec (x ≡ getD labels s 0) → (h : ℕ) × (h ≤ s + 1) × (isHV N h ≡ true) × (labelOf labels h ≡ x)
-        back x e (yes t) = (s + 1, omega arith, q, label-at s ∙ sym t)
-        back x e (no t) = let r = m .back x (sym (getD-set-other marks (getD labels s 0) x 1 0 t) ∙ e) in (r .0, omega (arith, r .1), r .2, r .3)
-
-    pub apart-skip : isHV N (s + 1) ≡ false → Apart N labels s → Apart N labels (s + 1)
-    apart-skip q a = record { differ = λ g h b c p r. go g h b c p r (ℕ-discrete h (s + 1)) }
-      where
-        go : (g h : ℕ) → g < h → h ≤ s + 1 → isHV N g ≡ true → isHV N h ≡ true → Dec (h ≡ s + 1) → labelOf labels g ≢ labelOf labels h
-        go g h b c p r (yes e) = absurd (true≢false (sym r ∙ ap (isHV N) e ∙ q))
-        go g h b c p r (no e) = a .differ g h b (omega arith) p r
-
-    pub apart-next : getD marks (getD labels s 0) 0 ≢ 1 → Apart N labels s → Apart N labels (s + 1)
-    apart-next z a = record { differ = λ g h b c p r. go g h b c p r (ℕ-discrete h (s + 1)) }
-      where
-        go : (g h : ℕ) → g < h → h ≤ s + 1 → isHV N g ≡ true → isHV N h ≡ true → Dec (h ≡ s + 1) → labelOf labels g ≢ labelOf labels h
-        go g h b c p r (yes e) = λ t. z (ap (λ n. getD marks n 0) (sym (t ∙ ap (labelOf labels) e ∙ label-at s)) ∙ m .on g (omega arith) p)
-        go g h b c p r (no e) = a .differ g h b (omega arith) p r
-
-  pub apart-start : Apart N labels 0
-  apart-start = record { differ = λ g h b c p r. absurd (omega arith) }
-
-  module _ (L : Labelled N (length (N .lines)) labels) where
     -- a label marked before: two HV stations are joined
-    pub marked-joined : (s : ℕ) (marks : List ℕ) → Marked N labels s marks → isHV N (s + 1) ≡ true → getD marks (getD labels s 0) 0 ≡ 1 → true ≡ someJoined N
-    marked-joined s marks m q e =
-        let t = m .back (getD labels s 0) e in
-        sym (labelled-joined N d labels L .1 (t .0, s + 1, t .2, q, (λ p. omega (arith, p, t .1)), t .3 ∙ sym (label-at s)))
+    pub marked-joined : {s x : ℕ} {marks : List ℕ} → Marked N labels s marks → x ≡ labelOf labels s → isHV N s ≡ true → getD marks x 0 ≡ 1 → true ≡ someJoined N
+    marked-joined {s} {x} m e q r =
+        let t = m .back x r in
+        sym (labelled-joined N d labels L .1 (t .0, s, t .2, q, (λ p. omega (arith, p, t .1)), t .3 ∙ e))
 
-    pub apart-joined : (s : ℕ) → length (N .stations) ≤ s → Apart N labels s → false ≡ someJoined N
-    apart-joined s l a = go (someJoined N) refl
+    pub apart-joined : {s : ℕ} → length (N .stations) < s → Apart N labels s → false ≡ someJoined N
+    apart-joined l a = go (someJoined N) refl
       where
         never : (g h : ℕ) → isHV N g ≡ true → isHV N h ≡ true → g ≢ h → labelOf labels g ≡ labelOf labels h → Dec (g < h) → ⊥
         never g h p q e t (yes b) = a .differ g h b (omega (arith, hv-in N d h q .1)) p q t
@@ -134,16 +137,15 @@ module _ (N : Network) (d : Read N) (labels : List ℕ) where
         go false e = refl
 
     -- a station is supplied where its label is marked
-    pub marked-supplied : (s : ℕ) (marks : List ℕ) → s < length (N .stations) → Marked N labels (length (N .stations)) marks → getD marks (getD labels s 0) 0 ≡ 1 → not (isSupplied N (s + 1)) ≡ false
-    marked-supplied s marks l m e =
-        let t = m .back (getD labels s 0) e in
-        ap not (labelled-supplied N d labels L (s + 1) (omega arith) (omega arith) .1 (t .0, t .2, label-at s ∙ sym (t .3)))
+    module _ {marks : List ℕ} (m : Marked N labels (length (N .stations) + 1) marks) {s x : ℕ} (e : x ≡ labelOf labels s) (a : 1 ≤ s) (b : s ≤ length (N .stations)) where
+      pub marked-supplied : getD marks x 0 ≡ 1 → not (isSupplied N s) ≡ false
+      marked-supplied r = let t = m .back x r in ap not (labelled-supplied N d labels L s a b .1 (t .0, t .2, sym (t .3 ∙ e)))
 
-    pub unmarked-unsupplied : (s : ℕ) (marks : List ℕ) → s < length (N .stations) → Marked N labels (length (N .stations)) marks → getD marks (getD labels s 0) 0 ≢ 1 → not (isSupplied N (s + 1)) ≡ true
-    unmarked-unsupplied s marks l m e = go (isSupplied N (s + 1)) refl
-      where
-        go : (b : Bool) → isSupplied N (s + 1) ≡ b → not b ≡ true
-        go true q =
-            let t = labelled-supplied N d labels L (s + 1) (omega arith) (omega arith) .0 q in
-            absurd (e (ap (λ n. getD marks n 0) (sym (label-at s) ∙ t .2) ∙ m .on (t .0) (hv-in N d (t .0) (t .1) .1) (t .1)))
-        go false q = refl
+      pub unmarked-unsupplied : getD marks x 0 ≢ 1 → not (isSupplied N s) ≡ true
+      unmarked-unsupplied z = go (isSupplied N s) refl
+        where
+          go : (b : Bool) → isSupplied N s ≡ b → not b ≡ true
+          go true q =
+              let t = labelled-supplied N d labels L s a b .0 q in
+              absurd (z (ap (λ n. getD marks n 0) (e ∙ t .2) ∙ m .on (t .0) (omega (arith, hv-in N d (t .0) (t .1) .1)) (t .1)))
+          go false q = refl

@@ -3,39 +3,30 @@ ghost use mathlib.Core.Path.{_≡_};
 ghost use mathlib.Core.Bool.{false, not, _&&_};
 ghost use Prim.Native.Nat.{ℕ, _+_, _≤_, _<_};
 ghost use lib.ListN.{length, getD};
-ghost use lib.Dec.{eqb};
 ghost use Rattle.model.specs.Lists.{firstOr};
-ghost use Rattle.model.specs.Paths.{end1, end2, isOpen, stationNumbers, lineNumbers, isHV};
-ghost use Rattle.model.specs.Rules.{bothOpen, unprotected, somePathReturns, someJoined, isSupplied};
+ghost use Rattle.model.specs.Paths.{end1, end2, isOpen, stationAt, stationNumbers, lineNumbers};
+ghost use Rattle.model.specs.Rules.{bothOpen, plainAtHV, unprotected, somePathReturns, someJoined, isSupplied};
 ghost use Rattle.graphs.specs.Labels.{relabel};
 ghost use Rattle.theory.specs.Reading.{Read};
-ghost use Rattle.theory.specs.Labels.{Labelled};
+ghost use Rattle.theory.specs.Labels.{labelOf, Labelled};
 ghost use Rattle.buffer.specs.Buffer.{networkIn};
+ghost use Rattle.buffer.specs.Fits.{StationThere, LineThere, EndThere, endIn};
 ghost use Rattle.radial.specs.Stations.{Marked};
 
-// Where the buffer has the numbers of stations and of lines, the role of station s (2 * s further on) and the numbers of line
-// l + 1 (5 * l further on).
-const STATIONS: usize = 0;
-
-const LINES: usize = 1;
-
-const ROLE: usize = 7;
-
-const FROM: usize = 1034;
-
-const TO: usize = 1035;
-
-const STATE_1: usize = 1036;
-
-const STATE_2: usize = 1037;
-
-// Whether both ends of line l + 1 are open.
-fn both_open(net: &[u64; 5129], l: usize) -> bool
-    requires { ⌜ Read (networkIn (now net)) ⌝ }
-    requires { ⌜ l < length (networkIn (now net) .lines) ⌝ }
-    ensures { λ r. ⌜ r ≡ bothOpen (networkIn (now (net .entry))) (l + 1) ⌝ }
+// Whether an end, 1 or 2, of a line is open.
+fn is_open(net: &[u64; 5129], line: usize, side: usize) -> bool
+    requires { ⌜ EndThere (now net) line side ⌝ }
+    ensures { λ r. ⌜ r ≡ isOpen (networkIn (now (net .entry))) (endIn line side) ⌝ }
 {
-    net[5 * l + STATE_1] == 2 && net[5 * l + STATE_2] == 2
+    buffer::end_state(net, line, side) == 2
+}
+
+// Whether both ends of a line are open.
+fn both_open(net: &[u64; 5129], line: usize) -> bool
+    requires { ⌜ LineThere (now net) line ⌝ }
+    ensures { λ r. ⌜ r ≡ bothOpen (networkIn (now (net .entry))) line ⌝ }
+{
+    is_open(net, line, 1) && is_open(net, line, 2)
 }
 
 // Rule 4: the first line with both ends open, or 0.
@@ -43,41 +34,40 @@ pub fn open_line(net: &[u64; 5129]) -> u64
     requires { ⌜ Read (networkIn (now net)) ⌝ }
     ensures { λ r. ⌜ r ≡ firstOr 0 (bothOpen (networkIn (now (net .entry)))) (lineNumbers (networkIn (now (net .entry)))) ⌝ }
 {
-    let lines = net[LINES] as usize;
-    for l in 0..lines {
-        if both_open(net, l) {
-            return l as u64 + 1;
+    for line in 1..buffer::lines(net) + 1 {
+        if both_open(net, line) {
+            return line as u64;
         }
     }
     0
 }
 
-// Whether station s is an HV station.
-fn is_hv(net: &[u64; 5129], s: usize) -> bool
+// The station that an end, 1 or 2, of a line is at.
+fn station_of(net: &[u64; 5129], line: usize, side: usize) -> usize
     requires { ⌜ Read (networkIn (now net)) ⌝ }
-    requires { ⌜ (1 ≤ s) × (s ≤ length (networkIn (now net) .stations)) ⌝ }
-    ensures { λ r. ⌜ r ≡ isHV (networkIn (now (net .entry))) s ⌝ }
+    requires { ⌜ EndThere (now net) line side ⌝ }
+    ensures { λ r. ⌜ r ≡ stationAt (networkIn (now (net .entry))) (endIn line side) ⌝ }
+    ensures { λ r. ⌜ StationThere (now (net .entry)) r ⌝ }
 {
-    net[2 * s + ROLE] == 1
+    buffer::end_station(net, line, side)
 }
 
-// Whether an end in this state, at station s, is a plain end at an HV station.
-fn is_plain_at_hv(net: &[u64; 5129], state: u64, s: u64) -> bool
+// Whether an end, 1 or 2, of a line is a plain end at an HV station.
+fn is_plain_at_hv(net: &[u64; 5129], line: usize, side: usize) -> bool
     requires { ⌜ Read (networkIn (now net)) ⌝ }
-    requires { ⌜ (1 ≤ s) × (s ≤ length (networkIn (now net) .stations)) ⌝ }
-    ensures { λ r. ⌜ r ≡ (eqb state 0 && isHV (networkIn (now (net .entry))) s) ⌝ }
+    requires { ⌜ EndThere (now net) line side ⌝ }
+    ensures { λ r. ⌜ r ≡ plainAtHV (networkIn (now (net .entry))) (endIn line side) ⌝ }
 {
-    state == 0 && is_hv(net, s as usize)
+    buffer::end_state(net, line, side) == 0 && buffer::is_hv(net, station_of(net, line, side))
 }
 
-// Whether line l + 1 has a plain end at an HV station.
-fn is_unprotected(net: &[u64; 5129], l: usize) -> bool
+// Whether a line has a plain end at an HV station.
+fn is_unprotected(net: &[u64; 5129], line: usize) -> bool
     requires { ⌜ Read (networkIn (now net)) ⌝ }
-    requires { ⌜ l < length (networkIn (now net) .lines) ⌝ }
-    ensures { λ r. ⌜ r ≡ unprotected (networkIn (now (net .entry))) (l + 1) ⌝ }
+    requires { ⌜ LineThere (now net) line ⌝ }
+    ensures { λ r. ⌜ r ≡ unprotected (networkIn (now (net .entry))) line ⌝ }
 {
-    is_plain_at_hv(net, net[5 * l + STATE_1], net[5 * l + FROM])
-        || is_plain_at_hv(net, net[5 * l + STATE_2], net[5 * l + TO])
+    is_plain_at_hv(net, line, 1) || is_plain_at_hv(net, line, 2)
 }
 
 // Rule 5: the first line with a plain end at an HV station, or 0.
@@ -85,10 +75,9 @@ pub fn plain_at_hv(net: &[u64; 5129]) -> u64
     requires { ⌜ Read (networkIn (now net)) ⌝ }
     ensures { λ r. ⌜ r ≡ firstOr 0 (unprotected (networkIn (now (net .entry)))) (lineNumbers (networkIn (now (net .entry)))) ⌝ }
 {
-    let lines = net[LINES] as usize;
-    for l in 0..lines {
-        if is_unprotected(net, l) {
-            return l as u64 + 1;
+    for line in 1..buffer::lines(net) + 1 {
+        if is_unprotected(net, line) {
+            return line as u64;
         }
     }
     0
@@ -118,13 +107,12 @@ fn rename(labels: &mut [u64; 512], x: u64, y: u64)
     }
 }
 
-// Whether both ends of line l + 1 are closed.
-fn both_closed(net: &[u64; 5129], l: usize) -> bool
-    requires { ⌜ Read (networkIn (now net)) ⌝ }
-    requires { ⌜ l < length (networkIn (now net) .lines) ⌝ }
-    ensures { λ r. ⌜ r ≡ (not (isOpen (networkIn (now (net .entry))) (end1 (l + 1))) && not (isOpen (networkIn (now (net .entry))) (end2 (l + 1)))) ⌝ }
+// Whether both ends of a line are closed.
+fn both_closed(net: &[u64; 5129], line: usize) -> bool
+    requires { ⌜ LineThere (now net) line ⌝ }
+    ensures { λ r. ⌜ r ≡ (not (isOpen (networkIn (now (net .entry))) (end1 line)) && not (isOpen (networkIn (now (net .entry))) (end2 line))) ⌝ }
 {
-    net[5 * l + STATE_1] != 2 && net[5 * l + STATE_2] != 2
+    !is_open(net, line, 1) && !is_open(net, line, 2)
 }
 
 // Rule 6: whether a path returns to its start. Where none does, stations have one label where a path joins them.
@@ -135,11 +123,10 @@ pub fn path_returns(net: &[u64; 5129], labels: &mut [u64; 512]) -> bool
     ensures { λ r. ⌜ (r ≡ false → Labelled (networkIn (now (net .entry))) (length (networkIn (now (net .entry)) .lines)) (now (labels .exit))) ⌝ }
 {
     number(labels);
-    let lines = net[LINES] as usize;
-    for l in 0..lines {
-        if both_closed(net, l) {
-            let x = labels[net[5 * l + FROM] as usize - 1];
-            let y = labels[net[5 * l + TO] as usize - 1];
+    for line in 1..buffer::lines(net) + 1 {
+        if both_closed(net, line) {
+            let x = labels[station_of(net, line, 1) - 1];
+            let y = labels[station_of(net, line, 2) - 1];
             if x == y {
                 return true;
             }
@@ -149,6 +136,14 @@ pub fn path_returns(net: &[u64; 5129], labels: &mut [u64; 512]) -> bool
     false
 }
 
+// The label of a station.
+fn label_of(labels: &[u64; 512], station: usize) -> usize
+    requires { ⌜ (1 ≤ station) × (station ≤ 512) × (labelOf (now labels) station ≤ 512) ⌝ }
+    ensures { λ r. ⌜ (r ≡ labelOf (now (labels .entry)) station) × (r ≤ 512) ⌝ }
+{
+    labels[station - 1] as usize
+}
+
 // Rule 7: whether a path joins two HV stations, that is, whether two have one label.
 pub fn hv_joined(net: &[u64; 5129], labels: &[u64; 512]) -> bool
     requires { ⌜ Read (networkIn (now net)) ⌝ }
@@ -156,10 +151,9 @@ pub fn hv_joined(net: &[u64; 5129], labels: &[u64; 512]) -> bool
     ensures { λ r. ⌜ r ≡ someJoined (networkIn (now (net .entry))) ⌝ }
 {
     let mut marks = [0u64; 513];
-    let stations = net[STATIONS] as usize;
-    for s in 0..stations {
-        if is_hv(net, s + 1) {
-            let x = labels[s] as usize;
+    for station in 1..buffer::stations(net) + 1 {
+        if buffer::is_hv(net, station) {
+            let x = label_of(labels, station);
             if marks[x] == 1 {
                 return true;
             }
@@ -173,13 +167,12 @@ pub fn hv_joined(net: &[u64; 5129], labels: &[u64; 512]) -> bool
 fn hv_labels(net: &[u64; 5129], labels: &[u64; 512]) -> [u64; 513]
     requires { ⌜ Read (networkIn (now net)) ⌝ }
     requires { ⌜ Labelled (networkIn (now net)) (length (networkIn (now net) .lines)) (now labels) ⌝ }
-    ensures { λ r. ⌜ Marked (networkIn (now (net .entry))) (now (labels .entry)) (length (networkIn (now (net .entry)) .stations)) r ⌝ }
+    ensures { λ r. ⌜ Marked (networkIn (now (net .entry))) (now (labels .entry)) (length (networkIn (now (net .entry)) .stations) + 1) r ⌝ }
 {
     let mut marks = [0u64; 513];
-    let stations = net[STATIONS] as usize;
-    for s in 0..stations {
-        if is_hv(net, s + 1) {
-            let x = labels[s] as usize;
+    for station in 1..buffer::stations(net) + 1 {
+        if buffer::is_hv(net, station) {
+            let x = label_of(labels, station);
             marks[x] = 1;
         }
     }
@@ -193,11 +186,11 @@ pub fn unsupplied(net: &[u64; 5129], labels: &[u64; 512]) -> u64
     ensures { λ r. ⌜ r ≡ firstOr 0 (λ s. not (isSupplied (networkIn (now (net .entry))) s)) (stationNumbers (networkIn (now (net .entry)))) ⌝ }
 {
     let marks = hv_labels(net, labels);
-    let stations = net[STATIONS] as usize;
-    for s in 0..stations {
-        let x = labels[s] as usize;
+    let stations = buffer::stations(net);
+    for station in 1..stations + 1 {
+        let x = label_of(labels, station);
         if marks[x] != 1 {
-            return s as u64 + 1;
+            return station as u64;
         }
     }
     0

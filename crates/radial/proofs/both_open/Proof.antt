@@ -1,59 +1,16 @@
-use Prim.Native.Nat.{_+_, _*_}
 use mathlib.Core.Path.{sym, _∙_}
-use lib.ListN.{getD}
-use lib.Dec.{eqb}
-use borrow.Author.Tests.{eq-eqb, ne-eqb}
+use Rattle.model.specs.Rules.{bothOpen}
 use borrow.Author.Needs.{needs}
-use Rattle.radial.specs.Tests.{and-true, and-false}
-use Rattle.radial.specs.Fields.{both-open-at}
 use Rattle.radial.proofs.both_open.Statement.{statement}
 use Rattle.radial.proofs.both_open.Tie as tie
 
-mul-if1 : tie.Need-mul-if1
-mul-if1 c = search needs
-
-add-if1 : tie.Need-add-if1
-add-if1 c = search needs
-
-mul-if1-2 : tie.Need-mul-if1-2
-mul-if1-2 c = search needs
-
-element-copy-out-if1 : tie.Need-element-copy-out-if1
-element-copy-out-if1 c = search needs
-
-mul-result : tie.Need-mul-result
-mul-result c = search needs
-
-add-result : tie.Need-add-result
-add-result c = search needs
-
-mul-result-2 : tie.Need-mul-result-2
-mul-result-2 c = search needs
-
-element-copy-out-result : tie.Need-element-copy-out-result
-element-copy-out-result c = search needs
-
 returns : tie.Need-returns
-returns c =
-    let s = c .before .before .before in
-    and-true (eqb (getD (s .args .net .now) (5 * s .args .l + 1036) 0) 2) (eqb (getD (s .args .net .now) (5 * s .args .l + 1037) 0) 2) (eq-eqb _ 2 (c .before .if1 .taken)) ∙ sym (both-open-at (s .args .net .now) (s .args .l) (s .pre .1))
+unfolding bothOpen
+returns c = rw (sym (c .before .before .is-open .ensures) ∙ c .before .if1 .taken) (c .is-open2 .ensures)
 
 returns-2 : tie.Need-returns-2
-returns-2 c =
-    let s = c .before .before in
-    and-false (eqb (getD (s .args .net .now) (5 * s .args .l + 1036) 0) 2) (eqb (getD (s .args .net .now) (5 * s .args .l + 1037) 0) 2) (ne-eqb _ 2 (c .if1 .left)) ∙ sym (both-open-at (s .args .net .now) (s .args .l) (s .pre .1))
+unfolding bothOpen
+returns-2 c = rw (sym (c .before .is-open .ensures) ∙ c .if1 .left) (c .if1 .left)
 
 pub both-open-spec : {M : Type 1} → statement M
-both-open-spec =
-    tie.close
-    (tie.spec
-    mul-if1
-    add-if1
-    mul-if1-2
-    element-copy-out-if1
-    mul-result
-    add-result
-    mul-result-2
-    element-copy-out-result
-    returns
-    returns-2)
+both-open-spec = tie.close (tie.spec (search needs) (search needs) returns returns-2)

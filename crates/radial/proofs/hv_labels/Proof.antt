@@ -1,74 +1,44 @@
-use Prim.Native.Nat.{_-_, _≤_}
+use Prim.Native.Nat.{_+_, _-_, _≤_}
 use mathlib.Core.Path.{_≡_, refl, sym, _∙_, subst}
 use mathlib.Core.Logic.{⊎-elim}
 use native.Mathlib.Omega.{arith}
-use lib.ListN.{length, getD, replicate, length-set}
-use borrow.Author.Needs.{needs}
+use lib.ListN.{length, replicate}
 use Rattle.buffer.specs.Buffer.{networkIn}
 use Rattle.theory.specs.Gathering.{zeros}
 use Rattle.radial.specs.Stations.{Marked, label-low, marked-start, marked-skip, marked-set}
-use Rattle.buffer.specs.Fields.{station-count}
+use borrow.Author.Needs.{needs}
 use Rattle.radial.proofs.hv_labels.Statement.{statement}
 use Rattle.radial.proofs.hv_labels.Tie as tie
 
--- Of the first s stations, the labels of the HV stations are marked.
+-- Of the stations before this one, the labels of the HV stations are marked.
 abbrev Inv-loop : tie.InvT-loop
-Inv-loop net labels marks₀ stations s₀ marks s = (stations ≡ length (networkIn net .stations)) × (s ≤ stations) × (length marks ≡ 513) × Marked (networkIn net) labels s marks
+Inv-loop net labels marks₀ station₀ station-end marks station = (station-end ≡ length (networkIn net .stations) + 1) × (1 ≤ station) × (station ≤ station-end) × Marked (networkIn net) labels station marks
 
 abbrev μ-loop : tie.MeasureT-loop
-μ-loop net labels marks₀ stations s₀ marks s = stations - s
-
-element-copy-out-stations : tie.Need-element-copy-out-stations Inv-loop μ-loop
-element-copy-out-stations c = search needs
+μ-loop net labels marks₀ station₀ station-end marks station = station-end - station
 
 loop-holds : tie.Need-loop-holds Inv-loop μ-loop
-loop-holds c =
-    let s = c .before in
-    (sym (station-count (s .args .net .now)), omega arith, refl, marked-start (networkIn (s .args .net .now)) (s .pre .0) (s .args .labels .now) (replicate 513 0) (zeros 513))
+loop-holds c = (omega arith, omega arith, omega arith, marked-start (c .before .pre .0) _ (replicate 513 0) refl (zeros 513))
 
-add-is-hv : tie.Need-add-is-hv Inv-loop μ-loop
-add-is-hv c = search needs
-
-is-hv-requires : tie.Need-is-hv-requires Inv-loop μ-loop
-is-hv-requires c κs = search needs
-
-mul-x : tie.Need-mul-x Inv-loop μ-loop
-mul-x c = search needs
-
-element-copy-out-x : tie.Need-element-copy-out-x Inv-loop μ-loop
-element-copy-out-x c = search needs
-
-mul-marks : tie.Need-mul-marks Inv-loop μ-loop
-mul-marks c =
-    let s = c .before .before .before .before .before .before in
-    omega (arith, label-low (networkIn (s .args .net .now)) (s .pre .0) (s .args .labels .now) _ (s .pre .1) (c .before .before .before .before .loop .s) (omega arith))
-
-array-write-marks : tie.Need-array-write-marks Inv-loop μ-loop
-array-write-marks c =
-    let s = c .before .before .before .before .before .before in
-    omega (arith, label-low (networkIn (s .args .net .now)) (s .pre .0) (s .args .labels .now) _ (s .pre .1) (c .before .before .before .before .loop .s) (omega arith))
-
-add-s : tie.Need-add-s Inv-loop μ-loop
-add-s c = search needs
-
-loop-less : tie.Need-loop-less Inv-loop μ-loop
-loop-less c = search needs
+label-of-requires : tie.Need-label-of-requires Inv-loop μ-loop
+label-of-requires c κs =
+    let s = c .before .before .before .before .before in
+    (omega arith, omega arith, label-low (s .pre .0) (s .pre .1) _ (omega arith) (omega arith))
 
 loop-again : tie.Need-loop-again Inv-loop μ-loop
 loop-again c =
-    let s = c .before .before .before .before .before in
-    let h = c .before .before .before .loop in
-    let a = label-low (networkIn (s .args .net .now)) (s .pre .0) (s .args .labels .now) _ (s .pre .1) (h .s) (omega arith) in
+    let i = c .before .before .before .loop .inv in
+    let e = sym (c .before .is-hv .ensures) in
     ⊎-elim
-    (λ w. rw (w .2) (h .inv .0, omega arith, length-set (h .marks) (getD (s .args .labels .now) (h .s) 0) 1 ∙ h .inv .2, marked-set (networkIn (s .args .net .now)) (s .pre .0) (s .args .labels .now) (h .s) (h .marks) (h .inv .3) (sym (c .before .is-hv .ensures) ∙ w .0 .taken) (omega arith)))
-    (λ w. rw (w .1) (h .inv .0, omega arith, h .inv .2, marked-skip (networkIn (s .args .net .now)) (s .pre .0) (s .args .labels .now) (h .s) (h .marks) (h .inv .3) (sym (c .before .is-hv .ensures) ∙ w .0 .left)))
+    (λ w. rw (w .2) (i .0, omega arith, omega arith, marked-set (i .3) (w .1 .ensures .0) (e ∙ w .0 .taken) (w .1 .ensures .1)))
+    (λ w. rw (w .1) (i .0, omega arith, omega arith, marked-skip (i .3) (e ∙ w .0 .left)))
     (c .if1 .came)
 
 returns : tie.Need-returns Inv-loop μ-loop
 returns c =
-    let s = c .before .before .before in
+    let a = c .before .before .before .args in
     let h = c .before .loop in
-    subst (λ n. Marked (networkIn (s .args .net .now)) (s .args .labels .now) n (h .marks)) (omega arith) (h .inv .3)
+    subst (λ n. Marked (networkIn (a .net .now)) (a .labels .now) n (h .marks)) (omega arith) (h .inv .3)
 
 pub hv-labels-spec : {M : Type 1} → statement M
 hv-labels-spec =
@@ -76,15 +46,14 @@ hv-labels-spec =
     (tie.spec
     Inv-loop
     μ-loop
-    element-copy-out-stations
+    (search needs)
+    (search needs)
     loop-holds
-    add-is-hv
-    is-hv-requires
-    mul-x
-    element-copy-out-x
-    mul-marks
-    array-write-marks
-    add-s
-    loop-less
+    (search needs)
+    label-of-requires
+    (search needs)
+    (search needs)
+    (search needs)
+    (search needs)
     loop-again
     returns)

@@ -17,21 +17,6 @@ abbrev μ-loop : tie.MeasureT-loop
 loop-holds : tie.Need-loop-holds Inv-loop μ-loop
 loop-holds c = (refl, omega arith, λ k l. absurd (omega arith))
 
-add-labels : tie.Need-add-labels Inv-loop μ-loop
-add-labels c = search needs
-
-mul-labels : tie.Need-mul-labels Inv-loop μ-loop
-mul-labels c = search needs
-
-element-write-labels : tie.Need-element-write-labels Inv-loop μ-loop
-element-write-labels c = search needs
-
-add-i : tie.Need-add-i Inv-loop μ-loop
-add-i c = search needs
-
-loop-less : tie.Need-loop-less Inv-loop μ-loop
-loop-less c = search needs
-
 loop-again : tie.Need-loop-again Inv-loop μ-loop
 loop-again c =
     let h = c .before .loop in
@@ -47,10 +32,10 @@ number-spec =
     Inv-loop
     μ-loop
     loop-holds
-    add-labels
-    mul-labels
-    element-write-labels
-    add-i
-    loop-less
+    (search needs)
+    (search needs)
+    (search needs)
+    (search needs)
+    (search needs)
     loop-again
     returns)

@@ -18,24 +18,6 @@ abbrev μ-loop : tie.MeasureT-loop
 loop-holds : tie.Need-loop-holds Inv-loop μ-loop
 loop-holds c = (c .pre, omega arith, record { done = λ k l. absurd (omega arith); left = λ k l. refl })
 
-mul-if1 : tie.Need-mul-if1 Inv-loop μ-loop
-mul-if1 c = search needs
-
-element-copy-out-if1 : tie.Need-element-copy-out-if1 Inv-loop μ-loop
-element-copy-out-if1 c = search needs
-
-mul-labels : tie.Need-mul-labels Inv-loop μ-loop
-mul-labels c = search needs
-
-element-write-labels : tie.Need-element-write-labels Inv-loop μ-loop
-element-write-labels c = search needs
-
-add-i : tie.Need-add-i Inv-loop μ-loop
-add-i c = search needs
-
-loop-less : tie.Need-loop-less Inv-loop μ-loop
-loop-less c = search needs
-
 loop-again : tie.Need-loop-again Inv-loop μ-loop
 loop-again c =
     let h = c .before .before .before .loop in
@@ -55,11 +37,11 @@ rename-spec =
     Inv-loop
     μ-loop
     loop-holds
-    mul-if1
-    element-copy-out-if1
-    mul-labels
-    element-write-labels
-    add-i
-    loop-less
+    (search needs)
+    (search needs)
+    (search needs)
+    (search needs)
+    (search needs)
+    (search needs)
     loop-again
     returns)
