@@ -1,3 +1,3 @@
 pub mod First
-pub mod Run
 pub mod Stations
+pub mod Run

@@ -16,6 +16,7 @@ use Rattle.savings.specs.Facts.{both}
 use Rattle.theory.specs.Reading.{Read}
 use Rattle.theory.specs.Labels.{labelOf, Labelled, labelled-start, labelled-skip, labelled-return, labelled-join, labelled-end}
 use Rattle.radial.specs.First.{first-zero}
+use Rattle.radial.specs.Stations.{few-stations}
 
 pub record Running (N : Network) (line : ℕ) (labels : List ℕ) : Type 0 where
   pub low : 1 ≤ line
@@ -24,20 +25,17 @@ pub record Running (N : Network) (line : ℕ) (labels : List ℕ) : Type 0 where
   pub labelled : Labelled N (line - 1) labels
 
 module _ {N : Network} (d : Read N) where
-  few : length (N .stations) ≤ 512
-  few = omega (arith, d .stationCount, d .head .stations .high)
-
   pub running-start : (labels : List ℕ) → length labels ≡ 512 → ((k : ℕ) → k < 512 → getD labels k 0 ≡ k + 1) → Running N 1 labels
   running-start labels e h = record {
     low = omega arith;
     inside = omega arith;
     long = e;
-    labelled = labelled-start N d labels (λ s m n. omega (arith, h (s - 1) (omega (arith, few))));
+    labelled = labelled-start N d labels (λ s m n. omega (arith, h (s - 1) (omega (arith, few-stations d))));
   }
 
   -- a line follows
   module _ (rule4 : firstOr 0 (bothOpen N) (lineNumbers N) ≡ 0) {l : ℕ} {labels : List ℕ} (r : Running N l labels) (h : l ≤ length (N .lines)) where
-    -- its number, as one more than that of the lines before it
+    -- its number is one more than the number of lines before it
     same : l - 1 + 1 ≡ l
     same = omega (arith, r .low)
 
@@ -77,7 +75,7 @@ module _ {N : Network} (d : Read N) where
             → ((k : ℕ) → k < 512 → getD labels′ k 0 ≡ relabel (labelOf labels s) (labelOf labels t) (getD labels k 0)) → Running N (l + 1) labels′
         running-join {labels′} e long g = next long
             (labelled-join N d (l - 1) labels (omega (arith, same)) some-closed (r .labelled) closed1 closed2 labels′ (λ p. e (sym label1 ∙ p ∙ label2))
-            (λ u m n. g (u - 1) (omega (arith, few)) ∙ (λ i. relabel (sym label1 i) (sym label2 i) (labelOf labels u))))
+            (λ u m n. g (u - 1) (omega (arith, few-stations d)) ∙ (λ i. relabel (sym label1 i) (sym label2 i) (labelOf labels u))))
 
   pub running-end : {l : ℕ} {labels : List ℕ} → length (N .lines) < l → Running N l labels → (false ≡ somePathReturns N) × Labelled N (length (N .lines)) labels
   running-end {l} {labels} h r = (sym (labelled-end N d labels whole), whole)

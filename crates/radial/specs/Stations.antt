@@ -15,6 +15,9 @@ use Rattle.graphs.specs.Labels.{relabel, relabel-same, relabel-other}
 use Rattle.theory.specs.Reading.{Read}
 use Rattle.theory.specs.Labels.{labelOf, Labelled, hv-in, labelled-joined, labelled-supplied}
 
+pub few-stations : {N : Network} → Read N → length (N .stations) ≤ 512
+few-stations d = omega (arith, d .stationCount, d .head .stations .high)
+
 pub number-step : (labels : List ℕ) (i : ℕ) → i < length labels → ((k : ℕ) → k < i → getD labels k 0 ≡ k + 1) → (k : ℕ) → k < i + 1 → getD (set labels i (i + 1)) k 0 ≡ k + 1
 number-step labels i l h k b = go (ℕ-discrete k i)
   where
@@ -115,9 +118,9 @@ module _ {N : Network} (d : Read N) where
   apart-start labels = record { differ = λ g h b c p r. absurd (omega (arith, hv-in N d g p .0)) }
 
   module _ {labels : List ℕ} (L : Labelled N (length (N .lines)) labels) where
-    -- a label is at most the number of stations
-    pub label-low : (s : ℕ) → 1 ≤ s → s ≤ length (N .stations) → labelOf labels s ≤ 512
-    label-low s a b = omega (arith, L .low s a b, d .stationCount, d .head .stations .high)
+    -- a station has a place in the labels, and its label a mark
+    pub label-there : (s : ℕ) → 1 ≤ s → s ≤ length (N .stations) → (1 ≤ s) × (s ≤ 512) × (labelOf labels s ≤ 512)
+    label-there s a b = (a, omega (arith, few-stations d), omega (arith, L .low s a b, few-stations d))
 
     -- a label marked before: two HV stations are joined
     pub marked-joined : {s x : ℕ} {marks : List ℕ} → Marked N labels s marks → x ≡ labelOf labels s → isHV N s ≡ true → getD marks x 0 ≡ 1 → true ≡ someJoined N

@@ -1,6 +1,6 @@
 use mathlib.Core.Path.{sym, _∙_}
-use Rattle.model.specs.Rules.{bothOpen}
 use borrow.Author.Needs.{needs}
+use Rattle.model.specs.Rules.{bothOpen}
 use Rattle.radial.proofs.both_open.Statement.{statement}
 use Rattle.radial.proofs.both_open.Tie as tie
 

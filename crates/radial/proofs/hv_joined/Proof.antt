@@ -3,10 +3,10 @@ use mathlib.Core.Path.{_≡_, refl, sym, _∙_}
 use mathlib.Core.Logic.{⊎-elim}
 use native.Mathlib.Omega.{arith}
 use lib.ListN.{length, replicate}
+use borrow.Author.Needs.{needs}
 use Rattle.buffer.specs.Buffer.{networkIn}
 use Rattle.theory.specs.Gathering.{zeros}
-use Rattle.radial.specs.Stations.{Marked, Apart, label-low, marked-start, marked-skip, marked-set, apart-start, apart-skip, apart-next, marked-joined, apart-joined}
-use borrow.Author.Needs.{needs}
+use Rattle.radial.specs.Stations.{Marked, Apart, label-there, marked-start, marked-skip, marked-set, apart-start, apart-skip, apart-next, marked-joined, apart-joined}
 use Rattle.radial.proofs.hv_joined.Statement.{statement}
 use Rattle.radial.proofs.hv_joined.Tie as tie
 
@@ -25,7 +25,7 @@ loop-holds c =
 label-of-requires : tie.Need-label-of-requires Inv-loop μ-loop
 label-of-requires c κs =
     let s = c .before .before .before .before .before in
-    (omega arith, omega arith, label-low (s .pre .0) (s .pre .1) _ (omega arith) (omega arith))
+    label-there (s .pre .0) (s .pre .1) _ (omega arith) (omega arith)
 
 returns : tie.Need-returns Inv-loop μ-loop
 returns c =

@@ -3,10 +3,10 @@ use mathlib.Core.Path.{_≡_, refl, sym, _∙_, subst}
 use mathlib.Core.Logic.{⊎-elim}
 use native.Mathlib.Omega.{arith}
 use lib.ListN.{length, replicate}
+use borrow.Author.Needs.{needs}
 use Rattle.buffer.specs.Buffer.{networkIn}
 use Rattle.theory.specs.Gathering.{zeros}
-use Rattle.radial.specs.Stations.{Marked, label-low, marked-start, marked-skip, marked-set}
-use borrow.Author.Needs.{needs}
+use Rattle.radial.specs.Stations.{Marked, label-there, marked-start, marked-skip, marked-set}
 use Rattle.radial.proofs.hv_labels.Statement.{statement}
 use Rattle.radial.proofs.hv_labels.Tie as tie
 
@@ -23,7 +23,7 @@ loop-holds c = (omega arith, omega arith, omega arith, marked-start (c .before .
 label-of-requires : tie.Need-label-of-requires Inv-loop μ-loop
 label-of-requires c κs =
     let s = c .before .before .before .before .before in
-    (omega arith, omega arith, label-low (s .pre .0) (s .pre .1) _ (omega arith) (omega arith))
+    label-there (s .pre .0) (s .pre .1) _ (omega arith) (omega arith)
 
 loop-again : tie.Need-loop-again Inv-loop μ-loop
 loop-again c =

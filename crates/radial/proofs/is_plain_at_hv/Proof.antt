@@ -1,10 +1,10 @@
 use mathlib.Core.Path.{sym, ap, _∙_}
 use lib.Dec.{eqb}
 use borrow.Author.Tests.{eq-eqb, ne-eqb}
+use borrow.Author.Needs.{needs}
 use Rattle.model.specs.Paths.{isHV}
 use Rattle.model.specs.Rules.{plainAtHV}
 use Rattle.buffer.specs.Buffer.{networkIn}
-use borrow.Author.Needs.{needs}
 use Rattle.radial.proofs.is_plain_at_hv.Statement.{statement}
 use Rattle.radial.proofs.is_plain_at_hv.Tie as tie
 

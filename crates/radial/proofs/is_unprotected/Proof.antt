@@ -1,6 +1,6 @@
 use mathlib.Core.Path.{sym, _∙_}
-use Rattle.model.specs.Rules.{unprotected}
 use borrow.Author.Needs.{needs}
+use Rattle.model.specs.Rules.{unprotected}
 use Rattle.radial.proofs.is_unprotected.Statement.{statement}
 use Rattle.radial.proofs.is_unprotected.Tie as tie
 

@@ -2,11 +2,11 @@ use Prim.Native.Nat.{_+_, _-_}
 use mathlib.Core.Path.{_≡_, sym, _∙_}
 use native.Mathlib.Omega.{arith}
 use lib.ListN.{length}
+use borrow.Author.Needs.{needs}
 use Rattle.model.specs.Paths.{lineNumbers}
 use Rattle.model.specs.Rules.{bothOpen}
 use Rattle.buffer.specs.Buffer.{networkIn}
 use Rattle.radial.specs.First.{Passed, passed-start, passed-next, passed-here, passed-end}
-use borrow.Author.Needs.{needs}
 use Rattle.radial.proofs.open_line.Statement.{statement}
 use Rattle.radial.proofs.open_line.Tie as tie
 

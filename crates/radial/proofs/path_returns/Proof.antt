@@ -4,9 +4,9 @@ use mathlib.Core.Bool.{true≢false}
 use mathlib.Core.Logic.{⊎-elim}
 use native.Mathlib.Omega.{arith}
 use lib.ListN.{length}
+use borrow.Author.Needs.{needs}
 use Rattle.buffer.specs.Buffer.{networkIn}
 use Rattle.radial.specs.Run.{Running, running-start, running-skip, running-return, running-join, running-end}
-use borrow.Author.Needs.{needs}
 use Rattle.radial.proofs.path_returns.Statement.{statement}
 use Rattle.radial.proofs.path_returns.Tie as tie
 

@@ -1,8 +1,8 @@
 use native.Mathlib.Omega.{arith}
+use borrow.Author.Needs.{needs}
 use Rattle.buffer.specs.Buffer.{networkIn}
 use Rattle.buffer.specs.Fits.{endIn}
 use Rattle.theory.specs.Radial.{station-in}
-use borrow.Author.Needs.{needs}
 use Rattle.radial.proofs.station_of.Statement.{statement}
 use Rattle.radial.proofs.station_of.Tie as tie
 

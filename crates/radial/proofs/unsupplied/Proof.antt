@@ -3,12 +3,12 @@ use mathlib.Core.Path.{_≡_}
 use mathlib.Core.Bool.{not}
 use native.Mathlib.Omega.{arith}
 use lib.ListN.{length}
+use borrow.Author.Needs.{needs}
 use Rattle.model.specs.Paths.{stationNumbers}
 use Rattle.model.specs.Rules.{isSupplied}
 use Rattle.buffer.specs.Buffer.{networkIn}
 use Rattle.radial.specs.First.{Passed, passed-start, passed-next, passed-here, passed-end}
-use Rattle.radial.specs.Stations.{label-low, marked-supplied, unmarked-unsupplied}
-use borrow.Author.Needs.{needs}
+use Rattle.radial.specs.Stations.{label-there, marked-supplied, unmarked-unsupplied}
 use Rattle.radial.proofs.unsupplied.Statement.{statement}
 use Rattle.radial.proofs.unsupplied.Tie as tie
 
@@ -25,7 +25,7 @@ loop-holds c = (omega arith, passed-start _ _)
 label-of-requires : tie.Need-label-of-requires Inv-loop μ-loop
 label-of-requires c κs =
     let s = c .before .before .before .before in
-    (omega arith, omega arith, label-low (s .pre .0) (s .pre .1) _ (omega arith) (omega arith))
+    label-there (s .pre .0) (s .pre .1) _ (omega arith) (omega arith)
 
 returns : tie.Need-returns Inv-loop μ-loop
 unfolding stationNumbers
