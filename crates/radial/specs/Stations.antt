@@ -15,6 +15,7 @@ use Rattle.graphs.specs.Labels.{relabel, relabel-same, relabel-other}
 use Rattle.theory.specs.Reading.{Read}
 use Rattle.theory.specs.Labels.{labelOf, Labelled, hv-in, labelled-joined, labelled-supplied}
 
+-- a file has at most 512 stations
 pub few-stations : {N : Network} → Read N → length (N .stations) ≤ 512
 few-stations d = omega (arith, d .stationCount, d .head .stations .high)
 
@@ -30,7 +31,7 @@ pub record Renamed (x y i : ℕ) (before labels : List ℕ) : Type 0 where
   pub done : (k : ℕ) → k < i → getD labels k 0 ≡ relabel x y (getD before k 0)
   pub left : (k : ℕ) → i ≤ k → getD labels k 0 ≡ getD before k 0
 
-module _ (x y i : ℕ) (before labels : List ℕ) (r : Renamed x y i before labels) where
+module _ {x y i : ℕ} {before labels : List ℕ} (r : Renamed x y i before labels) where
   here : getD labels i 0 ≡ getD before i 0
   here = r .left i (omega arith)
 
@@ -58,6 +59,7 @@ pub record Marked (N : Network) (labels : List ℕ) (s : ℕ) (marks : List ℕ)
 pub record Apart (N : Network) (labels : List ℕ) (s : ℕ) : Type 0 where
   pub differ : (g h : ℕ) → g < h → h < s → isHV N g ≡ true → isHV N h ≡ true → labelOf labels g ≢ labelOf labels h
 
+-- an HV station among the first s is before s, if s is none
 not-last : (N : Network) (s h : ℕ) → isHV N s ≡ false → h < s + 1 → isHV N h ≡ true → h < s
 not-last N s h q b p = go (ℕ-discrete h s)
   where

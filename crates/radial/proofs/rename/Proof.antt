@@ -23,8 +23,8 @@ loop-again c =
     let h = c .before .before .before .loop in
     let g = c .before .before .before .before .args in
     ⊎-elim
-    (λ w. rw (w .1) (length-set (h .labels) (h .i) (g .y) ∙ h .inv .0, omega arith, renamed-set (g .x) (g .y) (h .i) (g .labels .now) (h .labels) (h .inv .2) (omega arith) (w .0 .taken)))
-    (λ w. rw (w .1) (h .inv .0, omega arith, renamed-stay (g .x) (g .y) (h .i) (g .labels .now) (h .labels) (h .inv .2) (w .0 .left)))
+    (λ w. rw (w .1) (length-set (h .labels) (h .i) (g .y) ∙ h .inv .0, omega arith, renamed-set (h .inv .2) (omega arith) (w .0 .taken)))
+    (λ w. rw (w .1) (h .inv .0, omega arith, renamed-stay (h .inv .2) (w .0 .left)))
     (c .if1 .came)
 
 returns : tie.Need-returns Inv-loop μ-loop
