@@ -7,71 +7,77 @@ ghost use Rattle.model.specs.Sets.{placeAt};
 ghost use Rattle.buffer.specs.Buffer.{networkIn};
 ghost use Rattle.buffer.specs.Fits.{StationThere, LineThere, EndThere, PlaceThere, lineIn, endIn};
 
+// How many numbers a buffer has.
+pub const SIZE: usize = 5129;
+
+// The buffer of a network.
+pub type Net = [u64; SIZE];
+
 // How many stations there are.
-pub fn stations(net: &[u64; 5129]) -> usize
+pub fn stations(net: &Net) -> usize
     ensures { λ r. ⌜ r ≡ length (networkIn (now (net .entry)) .stations) ⌝ }
 {
     net[0] as usize
 }
 
 // How many lines there are.
-pub fn lines(net: &[u64; 5129]) -> usize
+pub fn lines(net: &Net) -> usize
     ensures { λ r. ⌜ r ≡ length (networkIn (now (net .entry)) .lines) ⌝ }
 {
     net[1] as usize
 }
 
 // How many places there are.
-pub fn places(net: &[u64; 5129]) -> usize
+pub fn places(net: &Net) -> usize
     ensures { λ r. ⌜ r ≡ length (networkIn (now (net .entry)) .places) ⌝ }
 {
     net[8] as usize
 }
 
 // The mean outage duration, in minutes.
-pub fn minutes(net: &[u64; 5129]) -> u64
+pub fn minutes(net: &Net) -> u64
     ensures { λ r. ⌜ r ≡ networkIn (now (net .entry)) .head .minutes ⌝ }
 {
     net[2]
 }
 
 // The most breakers that a path may pass.
-pub fn series(net: &[u64; 5129]) -> u64
+pub fn series(net: &Net) -> u64
     ensures { λ r. ⌜ r ≡ networkIn (now (net .entry)) .head .series ⌝ }
 {
     net[3]
 }
 
 // How many breakers may be added.
-pub fn adds(net: &[u64; 5129]) -> usize
+pub fn adds(net: &Net) -> usize
     ensures { λ r. ⌜ r ≡ networkIn (now (net .entry)) .head .adds ⌝ }
 {
     net[4] as usize
 }
 
 // The money for added breakers.
-pub fn money(net: &[u64; 5129]) -> u64
+pub fn money(net: &Net) -> u64
     ensures { λ r. ⌜ r ≡ networkIn (now (net .entry)) .head .money ⌝ }
 {
     net[5]
 }
 
 // The hours for added breakers.
-pub fn hours(net: &[u64; 5129]) -> u64
+pub fn hours(net: &Net) -> u64
     ensures { λ r. ⌜ r ≡ networkIn (now (net .entry)) .head .hours ⌝ }
 {
     net[6]
 }
 
 // The most visits of a search.
-pub fn visits(net: &[u64; 5129]) -> u64
+pub fn visits(net: &Net) -> u64
     ensures { λ r. ⌜ r ≡ networkIn (now (net .entry)) .head .visits ⌝ }
 {
     net[7]
 }
 
 // Whether a station is an HV station.
-pub fn is_hv(net: &[u64; 5129], station: usize) -> bool
+pub fn is_hv(net: &Net, station: usize) -> bool
     requires { ⌜ StationThere (now net) station ⌝ }
     ensures { λ r. ⌜ r ≡ isHV (networkIn (now (net .entry))) station ⌝ }
 {
@@ -79,7 +85,7 @@ pub fn is_hv(net: &[u64; 5129], station: usize) -> bool
 }
 
 // The customers of a station.
-pub fn customers(net: &[u64; 5129], station: usize) -> u64
+pub fn customers(net: &Net, station: usize) -> u64
     requires { ⌜ StationThere (now net) station ⌝ }
     ensures { λ r. ⌜ r ≡ customersOf (networkIn (now (net .entry))) station ⌝ }
 {
@@ -87,7 +93,7 @@ pub fn customers(net: &[u64; 5129], station: usize) -> u64
 }
 
 // The weight of a line.
-pub fn weight(net: &[u64; 5129], line: usize) -> u64
+pub fn weight(net: &Net, line: usize) -> u64
     requires { ⌜ LineThere (now net) line ⌝ }
     ensures { λ r. ⌜ r ≡ lineIn (now (net .entry)) line .weight ⌝ }
 {
@@ -95,7 +101,7 @@ pub fn weight(net: &[u64; 5129], line: usize) -> u64
 }
 
 // The state of an end, 1 or 2, of a line: 0 plain, 1 breaker, 2 open.
-pub fn end_state(net: &[u64; 5129], line: usize, side: usize) -> u64
+pub fn end_state(net: &Net, line: usize, side: usize) -> u64
     requires { ⌜ EndThere (now net) line side ⌝ }
     ensures { λ r. ⌜ r ≡ state (networkIn (now (net .entry))) (endIn line side) ⌝ }
 {
@@ -103,7 +109,7 @@ pub fn end_state(net: &[u64; 5129], line: usize, side: usize) -> u64
 }
 
 // Whether an end, 1 or 2, of a line is a breaker.
-pub fn is_breaker(net: &[u64; 5129], line: usize, side: usize) -> bool
+pub fn is_breaker(net: &Net, line: usize, side: usize) -> bool
     requires { ⌜ EndThere (now net) line side ⌝ }
     ensures { λ r. ⌜ r ≡ isBreaker (networkIn (now (net .entry))) (endIn line side) ⌝ }
 {
@@ -111,7 +117,7 @@ pub fn is_breaker(net: &[u64; 5129], line: usize, side: usize) -> bool
 }
 
 // The station that an end, 1 or 2, of a line is at.
-pub fn end_station(net: &[u64; 5129], line: usize, side: usize) -> usize
+pub fn end_station(net: &Net, line: usize, side: usize) -> usize
     requires { ⌜ EndThere (now net) line side ⌝ }
     ensures { λ r. ⌜ r ≡ stationAt (networkIn (now (net .entry))) (endIn line side) ⌝ }
 {
@@ -119,7 +125,7 @@ pub fn end_station(net: &[u64; 5129], line: usize, side: usize) -> usize
 }
 
 // The line of a place.
-pub fn place_line(net: &[u64; 5129], place: usize) -> usize
+pub fn place_line(net: &Net, place: usize) -> usize
     requires { ⌜ PlaceThere (now net) place ⌝ }
     ensures { λ r. ⌜ r ≡ placeAt (networkIn (now (net .entry))) place .line ⌝ }
 {
@@ -127,7 +133,7 @@ pub fn place_line(net: &[u64; 5129], place: usize) -> usize
 }
 
 // The end, 1 or 2, of a place.
-pub fn place_side(net: &[u64; 5129], place: usize) -> usize
+pub fn place_side(net: &Net, place: usize) -> usize
     requires { ⌜ PlaceThere (now net) place ⌝ }
     ensures { λ r. ⌜ r ≡ placeAt (networkIn (now (net .entry))) place .side ⌝ }
 {
@@ -135,7 +141,7 @@ pub fn place_side(net: &[u64; 5129], place: usize) -> usize
 }
 
 // The cost of a place.
-pub fn place_cost(net: &[u64; 5129], place: usize) -> u64
+pub fn place_cost(net: &Net, place: usize) -> u64
     requires { ⌜ PlaceThere (now net) place ⌝ }
     ensures { λ r. ⌜ r ≡ placeAt (networkIn (now (net .entry))) place .cost ⌝ }
 {
@@ -143,7 +149,7 @@ pub fn place_cost(net: &[u64; 5129], place: usize) -> u64
 }
 
 // The hours of a place.
-pub fn place_hours(net: &[u64; 5129], place: usize) -> u64
+pub fn place_hours(net: &Net, place: usize) -> u64
     requires { ⌜ PlaceThere (now net) place ⌝ }
     ensures { λ r. ⌜ r ≡ placeAt (networkIn (now (net .entry))) place .hours ⌝ }
 {

@@ -15,7 +15,7 @@ use model::CheckAnswer;
 use reader::ReadAnswer;
 
 // The record of a line: behind the head and the stations.
-fn line_record(net: &[u64; 5129], line: u64) -> u64
+fn line_record(net: &buffer::Net, line: u64) -> u64
     requires { ⌜ Read (networkIn (now net)) × (line ≤ 769) ⌝ }
     ensures { λ r. ⌜ r ≡ lineRecord (networkIn (now (net .entry))) line ⌝ }
 {
@@ -31,7 +31,7 @@ fn station_record(station: u64) -> u64
 }
 
 // The rules 4 to 8 in turn.
-fn forest_rules(net: &[u64; 5129]) -> CheckAnswer
+fn forest_rules(net: &buffer::Net) -> CheckAnswer
     requires { ⌜ Read (networkIn (now net)) ⌝ }
     ensures { λ r. ⌜ ((next : Answer Network) → before r next ≡ forest (networkIn (now (net .entry))) next) ⌝ }
     ensures { λ r. ⌜ (r ≡ CheckAnswer.Accepted → Rules (networkIn (now (net .entry)))) ⌝ }
@@ -81,7 +81,7 @@ pub fn stations_space() -> [u64; 512] {
 // The rules 4 to 9 in turn. Where they hold, the lists of the closed ends at each station and the lines from the HV stations
 // outwards are left in the buffers.
 fn rules(
-    net: &[u64; 5129],
+    net: &buffer::Net,
     heads: &mut [u64; 512],
     nexts: &mut [u64; 1536],
     near: &mut [u64; 768],
@@ -112,7 +112,7 @@ fn rules(
 // Reads and checks a file. Where it is accepted, its network and what is prepared of it are left in the buffers.
 pub fn load(
     file: &[u8],
-    net: &mut [u64; 5129],
+    net: &mut buffer::Net,
     heads: &mut [u64; 512],
     nexts: &mut [u64; 1536],
     near: &mut [u64; 768],
@@ -130,7 +130,7 @@ pub fn load(
 
 // The impact of a fault on each line of an accepted network, from the customers behind each line.
 pub fn line_impacts(
-    net: &[u64; 5129],
+    net: &buffer::Net,
     near: &[u64; 768],
     feed: &[u64; 768],
     order: &[u64; 768],
@@ -147,7 +147,7 @@ pub fn line_impacts(
 
 // The impact of a fault on each line of an accepted network.
 fn impacts(
-    net: &[u64; 5129],
+    net: &buffer::Net,
     heads: &[u64; 512],
     nexts: &[u64; 1536],
     near: &[u64; 768],
@@ -164,7 +164,7 @@ fn impacts(
 }
 
 // Reads and checks a file. Where it is accepted, its network and the impact of a fault on each line are left in the buffers.
-pub fn load_impacts(file: &[u8], net: &mut [u64; 5129], out: &mut [u64; 768]) -> CheckAnswer
+pub fn load_impacts(file: &[u8], net: &mut buffer::Net, out: &mut [u64; 768]) -> CheckAnswer
     ensures { λ r. ⌜ loaded r (now (net .exit)) ≡ accepted (now (file .entry)) ⌝ }
     ensures { λ r. ⌜ (r ≡ CheckAnswer.Accepted → HoldsImpacts (networkIn (now (net .exit))) (now (out .exit))) ⌝ }
 {
@@ -191,8 +191,8 @@ pub fn load_impacts(file: &[u8], net: &mut [u64; 5129], out: &mut [u64; 768]) ->
 }
 
 // Room for a network.
-pub fn net_space() -> [u64; 5129] {
-    [0; 5129]
+pub fn net_space() -> buffer::Net {
+    [0; buffer::SIZE]
 }
 
 // Room for a number of each end.

@@ -151,7 +151,7 @@ fn too_long(bytes: usize) -> bool
 }
 
 // Reads a network file into the buffer, or says why it is refused: for its length, then record by record.
-pub fn read(file: &[u8], net: &mut [u64; 5129]) -> ReadAnswer
+pub fn read(file: &[u8], net: &mut buffer::Net) -> ReadAnswer
     ensures { λ r. ⌜ readSays r (now (net .exit)) ≡ networkOf (now (file .entry)) ⌝ }
 {
     if too_long(file.len()) {
