@@ -5,6 +5,37 @@ use mathlib.Core.List.{List, [], _∷_, map}
 use lib.ListN.{take, drop}
 use Rattle.model.specs.Network.{Head, Network, value, headOf, stationOf, lineOf, placeOf}
 
+-- how many numbers a buffer has
+abbrev pub size : ℕ
+size = 5129
+
+-- where the number of breakers that may be added and the number of places stand, and where the stations, the lines and the
+-- places begin
+abbrev pub addsAt : ℕ
+addsAt = 4
+
+abbrev pub placeCountAt : ℕ
+placeCountAt = 8
+
+abbrev pub stationsAt : ℕ
+stationsAt = 9
+
+abbrev pub linesAt : ℕ
+linesAt = 1033
+
+abbrev pub placesAt : ℕ
+placesAt = 4873
+
+-- how many numbers a station, a line and a place have
+abbrev pub stationWidth : ℕ
+stationWidth = 2
+
+abbrev pub lineWidth : ℕ
+lineWidth = 5
+
+abbrev pub placeWidth : ℕ
+placeWidth = 4
+
 -- so many records of so many numbers each
 unfoldable pub recordsIn : ℕ → ℕ → List ℕ → List (List ℕ)
 recordsIn width zero b = []
@@ -16,7 +47,7 @@ networkIn b =
     let h : Head = headOf b in
     record {
       head = h;
-      stations = map stationOf (recordsIn 2 (h .stations) (drop 9 b));
-      lines = map lineOf (recordsIn 5 (h .lines) (drop 1033 b));
-      places = map placeOf (recordsIn 4 (value b 8) (drop 4873 b));
+      stations = map stationOf (recordsIn stationWidth (h .stations) (drop stationsAt b));
+      lines = map lineOf (recordsIn lineWidth (h .lines) (drop linesAt b));
+      places = map placeOf (recordsIn placeWidth (value b placeCountAt) (drop placesAt b));
     }

@@ -3,7 +3,7 @@ use Prim.Native.Nat.{ℕ, _≤_}
 use mathlib.Core.List.{List}
 use lib.ListN.{length}
 use Rattle.model.specs.Lists.{numbered}
-use Rattle.model.specs.Network.{Network, Line, noLine}
+use Rattle.model.specs.Network.{Network, Line, Place, noLine}
 use Rattle.model.specs.Paths.{End}
 use Rattle.buffer.specs.Buffer.{networkIn}
 
@@ -34,9 +34,12 @@ pub record PlaceThere (b : List ℕ) (p : ℕ) : Type 0 where
   pub low : 1 ≤ p
   pub high : p ≤ length (networkIn b .places)
 
--- a line of a buffer's network, and an end
+-- a line of a buffer's network, an end, and a place
 abbrev pub lineIn : List ℕ → ℕ → Line
 lineIn b l = numbered noLine (networkIn b .lines) l
 
 abbrev pub endIn : ℕ → ℕ → End
 endIn l side = record { line = l; side = side }
+
+abbrev pub placeOn : (line side cost hours : ℕ) → Place
+placeOn line side cost hours = record { line = line; side = side; cost = cost; hours = hours }

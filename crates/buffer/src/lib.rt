@@ -10,6 +10,23 @@ ghost use Rattle.buffer.specs.Fits.{StationThere, LineThere, EndThere, P
 // How many numbers a buffer has.
 pub const SIZE: usize = 5129;
 
+// Where the number of breakers that may be added and the number of places stand, and where the stations, the lines and the
+// places begin.
+pub const ADDS_AT: usize = 4;
+
+pub const PLACE_COUNT_AT: usize = 8;
+
+pub const STATIONS_AT: usize = 9;
+
+pub const LINES_AT: usize = 1033;
+
+pub const PLACES_AT: usize = 4873;
+
+// How many numbers a line and a place have.
+pub const LINE_WIDTH: usize = 5;
+
+pub const PLACE_WIDTH: usize = 4;
+
 // The buffer of a network.
 pub type Net = [u64; SIZE];
 
