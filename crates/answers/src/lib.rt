@@ -14,7 +14,7 @@ use model::SearchAnswer;
 use search::Progress;
 
 // Whether a number is a line's.
-pub fn is_line(net: &[u64; 5129], line: u64) -> bool
+pub fn is_line(net: &buffer::Net, line: u64) -> bool
     ensures { λ r. ⌜ (r ≡ true → (1 ≤ line) × (line ≤ length (networkIn (now (net .entry)) .lines))) × (r ≡ false → (line < 1) ⊎ (length (networkIn (now (net .entry)) .lines) < line)) ⌝ }
 {
     1 <= line && line <= buffer::lines(net) as u64

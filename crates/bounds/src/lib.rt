@@ -53,7 +53,7 @@ pub fn fill_bounds(savings: &[u64; 64], count: usize, bounds: &mut [u64; 1105])
 }
 
 // The sum of the `left` largest savings of the places from `from` on.
-pub fn most_saved(net: &[u64; 5129], bounds: &[u64; 1105], left: usize, from: usize) -> u64
+pub fn most_saved(net: &buffer::Net, bounds: &[u64; 1105], left: usize, from: usize) -> u64
     requires { ⌜ HoldsBounds (networkIn (now net)) (now bounds) × (length (networkIn (now net) .places) ≤ 64) × (1 ≤ left) × (left ≤ 16) × (1 ≤ from) × (from ≤ length (networkIn (now net) .places)) ⌝ }
     ensures { λ r. ⌜ r ≡ mostSaved (networkIn (now (net .entry))) left from ⌝ }
 {

@@ -132,7 +132,7 @@ pub fn search(file: &[u8], members: &mut [u64]) -> SearchAnswer
 
 // Writes the report of an accepted network at the start of a buffer; answers its length.
 fn report_network(
-    net: &[u64; 5129],
+    net: &buffer::Net,
     heads: &[u64; 512],
     nexts: &[u64; 1536],
     near: &[u64; 768],
@@ -199,7 +199,7 @@ pub fn report(file: &[u8], text: &mut [u8]) -> ReportAnswer
 
 // Writes the segment table of an accepted network at the start of a buffer; answers how many entries it has.
 fn table_network(
-    net: &[u64; 5129],
+    net: &buffer::Net,
     heads: &[u64; 512],
     nexts: &[u64; 1536],
     near: &[u64; 768],

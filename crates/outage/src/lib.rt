@@ -23,7 +23,7 @@ use amounts::Weight;
 // The customers behind a station that we come to by an end (0 at an HV station): its own, and those behind each line that
 // leaves it. The customers behind these lines, and behind the lines beyond them, are stored in `sums`.
 fn station_sum(
-    net: &[u64; 5129],
+    net: &buffer::Net,
     heads: &[u64; 512],
     nexts: &[u64; 1536],
     sums: &mut [u64],
@@ -48,7 +48,7 @@ fn station_sum(
 // The customers behind a line that we come to by its near end: those behind its far station, or none if its far end is open.
 // They are stored in `sums`, with those of the lines beyond.
 fn line_sum(
-    net: &[u64; 5129],
+    net: &buffer::Net,
     heads: &[u64; 512],
     nexts: &[u64; 1536],
     sums: &mut [u64],
@@ -79,7 +79,7 @@ fn line_sum(
 }
 
 // The customers behind each line, from the HV stations outwards.
-fn sums_outwards(net: &[u64; 5129], heads: &[u64; 512], nexts: &[u64; 1536], sums: &mut [u64])
+fn sums_outwards(net: &buffer::Net, heads: &[u64; 512], nexts: &[u64; 1536], sums: &mut [u64])
     requires { ⌜ Ready (networkIn (now net)) (now heads) (now nexts) × (length (now sums) ≡ 768) ⌝ }
     ensures { λ r. ⌜ HoldsCustomers (networkIn (now (net .entry))) (now (sums .exit)) ⌝ }
 {
@@ -93,7 +93,7 @@ fn sums_outwards(net: &[u64; 5129], heads: &[u64; 512], nexts: &[u64; 1536], sum
 
 // The customers behind each line.
 pub fn customers_behind(
-    net: &[u64; 5129],
+    net: &buffer::Net,
     heads: &[u64; 512],
     nexts: &[u64; 1536],
     sums: &mut [u64; 768],
@@ -105,7 +105,7 @@ pub fn customers_behind(
 }
 
 // Whether the near end of a line is a breaker.
-fn near_breaker(net: &[u64; 5129], near: &[u64; 768], line: usize) -> bool
+fn near_breaker(net: &buffer::Net, near: &[u64; 768], line: usize) -> bool
     requires { ⌜ EndThere (now net) line (getD (now near) (line - 1) 0) ⌝ }
     ensures { λ r. ⌜ r ≡ isBreaker (networkIn (now (net .entry))) (endIn line (getD (now (near .entry)) (line - 1) 0)) ⌝ }
 {
@@ -113,7 +113,7 @@ fn near_breaker(net: &[u64; 5129], near: &[u64; 768], line: usize) -> bool
 }
 
 // Whether the far end of a line is a breaker.
-fn far_breaker(net: &[u64; 5129], near: &[u64; 768], line: usize) -> bool
+fn far_breaker(net: &buffer::Net, near: &[u64; 768], line: usize) -> bool
     requires { ⌜ EndThere (now net) line (getD (now near) (line - 1) 0) ⌝ }
     ensures { λ r. ⌜ r ≡ isBreaker (networkIn (now (net .entry))) (endIn line (3 - getD (now (near .entry)) (line - 1) 0)) ⌝ }
 {
@@ -138,7 +138,7 @@ fn far_code(near: &[u64; 768], line: usize) -> u64
 
 // The code of the breaker that trips for a fault on a line, where `trips` has that of the line that feeds it.
 fn trip_of(
-    net: &[u64; 5129],
+    net: &buffer::Net,
     near: &[u64; 768],
     feed: &[u64; 768],
     trips: &[u64],
@@ -159,7 +159,7 @@ fn trip_of(
 
 // The code of the breaker that trips for each line, from the HV stations outwards.
 fn trips_outwards(
-    net: &[u64; 5129],
+    net: &buffer::Net,
     near: &[u64; 768],
     feed: &[u64; 768],
     order: &[u64; 768],
@@ -176,7 +176,7 @@ fn trips_outwards(
 
 // The code of the breaker that trips for each line.
 pub fn trips(
-    net: &[u64; 5129],
+    net: &buffer::Net,
     near: &[u64; 768],
     feed: &[u64; 768],
     order: &[u64; 768],
@@ -197,7 +197,7 @@ fn trip_line(trips: &[u64; 768], i: usize) -> usize
 }
 
 // The impact of a fault on each line: the customers behind the line of the breaker that trips for it.
-fn impacts_behind(net: &[u64; 5129], trips: &[u64; 768], sums: &[u64; 768], out: &mut [u64])
+fn impacts_behind(net: &buffer::Net, trips: &[u64; 768], sums: &[u64; 768], out: &mut [u64])
     requires { ⌜ Read (networkIn (now net)) × Rules (networkIn (now net)) × HoldsTrips (networkIn (now net)) (now trips) × HoldsCustomers (networkIn (now net)) (now sums) × (length (now out) ≡ 768) ⌝ }
     ensures { λ r. ⌜ HoldsImpacts (networkIn (now (net .entry))) (now (out .exit)) ⌝ }
 {
@@ -208,7 +208,7 @@ fn impacts_behind(net: &[u64; 5129], trips: &[u64; 768], sums: &[u64; 768], out:
 }
 
 // The impact of a fault on each line.
-pub fn impacts(net: &[u64; 5129], trips: &[u64; 768], sums: &[u64; 768], out: &mut [u64; 768])
+pub fn impacts(net: &buffer::Net, trips: &[u64; 768], sums: &[u64; 768], out: &mut [u64; 768])
     requires { ⌜ Read (networkIn (now net)) × Rules (networkIn (now net)) × HoldsTrips (networkIn (now net)) (now trips) × HoldsCustomers (networkIn (now net)) (now sums) ⌝ }
     ensures { λ r. ⌜ HoldsImpacts (networkIn (now (net .entry))) (now (out .exit)) ⌝ }
 {
@@ -216,7 +216,7 @@ pub fn impacts(net: &[u64; 5129], trips: &[u64; 768], sums: &[u64; 768], out: &m
 }
 
 // The outage amount of a line: its weight times the impact of a fault on it.
-pub fn outage_amount(net: &[u64; 5129], impacts: &[u64; 768], line: usize) -> Total
+pub fn outage_amount(net: &buffer::Net, impacts: &[u64; 768], line: usize) -> Total
     requires { ⌜ LineThere (now net) line × Sized (networkIn (now net)) × (getD (now impacts) (line - 1) 0 ≡ impact (networkIn (now net)) line) ⌝ }
     ensures { λ r. ⌜ r .0 ≡ outageAmount (networkIn (now (net .entry))) line ⌝ }
 {
@@ -226,7 +226,7 @@ pub fn outage_amount(net: &[u64; 5129], impacts: &[u64; 768], line: usize) -> To
 }
 
 // The total: the sum of the outage amounts of all lines.
-pub fn total_of(net: &[u64; 5129], impacts: &[u64; 768]) -> Total
+pub fn total_of(net: &buffer::Net, impacts: &[u64; 768]) -> Total
     requires { ⌜ Read (networkIn (now net)) × HoldsImpacts (networkIn (now net)) (now impacts) ⌝ }
     ensures { λ r. ⌜ r .0 ≡ totalOf (networkIn (now (net .entry))) ⌝ }
 {
@@ -238,7 +238,7 @@ pub fn total_of(net: &[u64; 5129], impacts: &[u64; 768]) -> Total
 }
 
 // The SAIDI figure of a network's total: minutes times the total.
-pub fn figure_of(net: &[u64; 5129], total: u64) -> u64
+pub fn figure_of(net: &buffer::Net, total: u64) -> u64
     requires { ⌜ Read (networkIn (now net)) × (total ≡ totalOf (networkIn (now net))) ⌝ }
     ensures { λ r. ⌜ r ≡ figure (networkIn (now (net .entry))) ⌝ }
 {

@@ -17,7 +17,7 @@ ghost use Rattle.sets.specs.Sets.{route};
 ghost use Rattle.paths.specs.Meets.{orElse, Meets, pathBeyond, HoldsFeeders, metIn};
 
 // The code of the end that a place is on.
-fn end_of(net: &[u64; 5129], place: usize) -> usize
+fn end_of(net: &buffer::Net, place: usize) -> usize
     requires { ⌜ Read (networkIn (now net)) × (1 ≤ place) × (place ≤ length (networkIn (now net) .places)) ⌝ }
     ensures { λ r. ⌜ (r ≡ endCode (endAt (networkIn (now (net .entry))) place)) × (1 ≤ r) × (r ≤ 2 * length (networkIn (now (net .entry)) .lines)) ⌝ }
 {
@@ -32,7 +32,7 @@ fn no_ends(ends: &mut [u64; 65])
 }
 
 // The code of each place's end.
-pub fn fill_ends(net: &[u64; 5129], ends: &mut [u64; 65])
+pub fn fill_ends(net: &buffer::Net, ends: &mut [u64; 65])
     requires { ⌜ Read (networkIn (now net)) ⌝ }
     ensures { λ r. ⌜ HoldsEnds (networkIn (now (net .entry))) (now (ends .exit)) × (length (now (ends .exit)) ≡ 65) ⌝ }
 {
@@ -57,7 +57,7 @@ fn is_place(place: usize) -> bool
 }
 
 // The place on each end, by the end's code.
-pub fn fill_places(net: &[u64; 5129], marks: &mut [u64; 1537])
+pub fn fill_places(net: &buffer::Net, marks: &mut [u64; 1537])
     requires { ⌜ Read (networkIn (now net)) ⌝ }
     ensures { λ r. ⌜ HoldsPlaces (networkIn (now (net .entry))) (now (marks .exit)) ⌝ }
 {
@@ -91,7 +91,7 @@ pub fn first_from(marks: &[u64; 1537], code: usize, beyond: u64) -> u64
 }
 
 // What a path meets that begins with an end, from what the rest of it meets.
-fn met_from(net: &[u64; 5129], marks: &[u64; 1537], code: usize, beyond: Met) -> Met
+fn met_from(net: &buffer::Net, marks: &[u64; 1537], code: usize, beyond: Met) -> Met
     requires { ⌜ Accepted (networkIn (now net)) × HoldsPlaces (networkIn (now net)) (now marks) × (1 ≤ code) × (code ≤ 2 * length (networkIn (now net) .lines)) × (beyond .count ≤ 9) ⌝ }
     ensures { λ r. ⌜ ((es : List End) → Meets (networkIn (now (net .entry))) es beyond → Meets (networkIn (now (net .entry))) (codeEnd code ∷ es) r) × (r .count ≤ beyond .count + 1) ⌝ }
 {
@@ -115,7 +115,7 @@ fn met_from(net: &[u64; 5129], marks: &[u64; 1537], code: usize, beyond: Met) ->
 
 // What the path of a station meets that a line feeds; that of an HV station where the line is 0.
 fn met_beyond(
-    net: &[u64; 5129],
+    net: &buffer::Net,
     near: &[u64; 768],
     marks: &[u64; 1537],
     trips: &[u64],
@@ -147,7 +147,7 @@ fn met_beyond(
 
 // What the path of a line meets, where the buffers have that of the line that feeds it.
 fn line_met(
-    net: &[u64; 5129],
+    net: &buffer::Net,
     near: &[u64; 768],
     feed: &[u64; 768],
     marks: &[u64; 1537],
@@ -177,7 +177,7 @@ fn line_met(
 
 // What the path of each line meets, from the HV stations outwards.
 fn lines_outwards(
-    net: &[u64; 5129],
+    net: &buffer::Net,
     near: &[u64; 768],
     feed: &[u64; 768],
     order: &[u64; 768],
@@ -202,7 +202,7 @@ fn lines_outwards(
 
 // What the path of each line meets first, a breaker, a place, either of the two; and how many breakers are on it.
 pub fn fill_lines(
-    net: &[u64; 5129],
+    net: &buffer::Net,
     near: &[u64; 768],
     feed: &[u64; 768],
     order: &[u64; 768],

@@ -39,7 +39,7 @@ fn marks_space() -> [u64; 1537] {
 
 // The relations of the places, the later ones that each is related to, the codes of their ends, and the level of the empty set.
 fn prepare(
-    net: &[u64; 5129],
+    net: &buffer::Net,
     near: &[u64; 768],
     feed: &[u64; 768],
     order: &[u64; 768],
@@ -86,7 +86,7 @@ fn prepare(
 
 // The table of the bounds of an accepted network.
 fn network_bounds(
-    net: &[u64; 5129],
+    net: &buffer::Net,
     relations: &[u64; 4225],
     ends: &[u64; 65],
     sums: &[u64; 768],
@@ -104,7 +104,7 @@ fn network_bounds(
 // The search of an accepted network, with the customers behind each line and its total: what it found, with the best set's places
 // at the start of `best`.
 pub fn best_set(
-    net: &[u64; 5129],
+    net: &buffer::Net,
     near: &[u64; 768],
     feed: &[u64; 768],
     order: &[u64; 768],
@@ -151,7 +151,7 @@ pub fn best_set(
 
 // The search of an accepted network, from what is prepared of it.
 pub fn search_network(
-    net: &[u64; 5129],
+    net: &buffer::Net,
     heads: &[u64; 512],
     nexts: &[u64; 1536],
     near: &[u64; 768],

@@ -24,7 +24,7 @@ use amounts::Weight;
 
 // The code of the breaker near a place, with the breakers of the set.
 fn near_of(
-    net: &[u64; 5129],
+    net: &buffer::Net,
     relations: &[u64; 4225],
     ends: &[u64; 65],
     level: &[u64; 195],
@@ -45,7 +45,7 @@ fn near_of(
 
 // The weight of a place, with the breakers of the set.
 fn weight_of(
-    net: &[u64; 5129],
+    net: &buffer::Net,
     relations: &[u64; 4225],
     level: &[u64; 195],
     set: &[u64; 16],
@@ -65,7 +65,7 @@ fn weight_of(
 
 // The most breakers in series with a place, with the breakers of the set.
 pub fn worst_of(
-    net: &[u64; 5129],
+    net: &buffer::Net,
     relations: &[u64; 4225],
     level: &[u64; 195],
     set: &[u64; 16],
@@ -113,7 +113,7 @@ fn keep(level: &[u64; 195], saved: &mut [u64; 3120], start: usize, place: usize)
 // Makes the level of the set without its last member the set's own: only the numbers of the places that the member is related to
 // change, and they are kept in row `size`.
 fn enter(
-    net: &[u64; 5129],
+    net: &buffer::Net,
     relations: &[u64; 4225],
     ends: &[u64; 65],
     lists: &[u64; 4225],
@@ -140,7 +140,7 @@ fn enter(
 
 // The level becomes the set's own, if it is still that of the set without its last member, which is then `by`.
 pub fn enter_once(
-    net: &[u64; 5129],
+    net: &buffer::Net,
     relations: &[u64; 4225],
     ends: &[u64; 65],
     lists: &[u64; 4225],
@@ -185,7 +185,7 @@ pub fn leave(
 
 // How much the total of the set falls with one more place.
 pub fn fall(
-    net: &[u64; 5129],
+    net: &buffer::Net,
     relations: &[u64; 4225],
     ends: &[u64; 65],
     sums: &[u64; 768],
@@ -207,7 +207,7 @@ pub fn fall(
 
 // The saving of each place: how much the file's total falls with its breaker alone.
 pub fn savings_of(
-    net: &[u64; 5129],
+    net: &buffer::Net,
     relations: &[u64; 4225],
     ends: &[u64; 65],
     sums: &[u64; 768],

@@ -14,7 +14,7 @@ ghost use Rattle.buffer.specs.Fits.{StationThere, LineThere, EndThere, endIn};
 ghost use Rattle.radial.specs.Stations.{Marked};
 
 // Whether an end, 1 or 2, of a line is open.
-fn is_open(net: &[u64; 5129], line: usize, side: usize) -> bool
+fn is_open(net: &buffer::Net, line: usize, side: usize) -> bool
     requires { ⌜ EndThere (now net) line side ⌝ }
     ensures { λ r. ⌜ r ≡ isOpen (networkIn (now (net .entry))) (endIn line side) ⌝ }
 {
@@ -22,7 +22,7 @@ fn is_open(net: &[u64; 5129], line: usize, side: usize) -> bool
 }
 
 // Whether both ends of a line are open.
-fn both_open(net: &[u64; 5129], line: usize) -> bool
+fn both_open(net: &buffer::Net, line: usize) -> bool
     requires { ⌜ LineThere (now net) line ⌝ }
     ensures { λ r. ⌜ r ≡ bothOpen (networkIn (now (net .entry))) line ⌝ }
 {
@@ -30,7 +30,7 @@ fn both_open(net: &[u64; 5129], line: usize) -> bool
 }
 
 // Rule 4: the first line with both ends open, or 0.
-pub fn open_line(net: &[u64; 5129]) -> u64
+pub fn open_line(net: &buffer::Net) -> u64
     requires { ⌜ Read (networkIn (now net)) ⌝ }
     ensures { λ r. ⌜ r ≡ firstOr 0 (bothOpen (networkIn (now (net .entry)))) (lineNumbers (networkIn (now (net .entry)))) ⌝ }
 {
@@ -43,7 +43,7 @@ pub fn open_line(net: &[u64; 5129]) -> u64
 }
 
 // The station that an end, 1 or 2, of a line is at.
-fn station_of(net: &[u64; 5129], line: usize, side: usize) -> usize
+fn station_of(net: &buffer::Net, line: usize, side: usize) -> usize
     requires { ⌜ Read (networkIn (now net)) ⌝ }
     requires { ⌜ EndThere (now net) line side ⌝ }
     ensures { λ r. ⌜ r ≡ stationAt (networkIn (now (net .entry))) (endIn line side) ⌝ }
@@ -53,7 +53,7 @@ fn station_of(net: &[u64; 5129], line: usize, side: usize) -> usize
 }
 
 // Whether an end, 1 or 2, of a line is a plain end at an HV station.
-fn is_plain_at_hv(net: &[u64; 5129], line: usize, side: usize) -> bool
+fn is_plain_at_hv(net: &buffer::Net, line: usize, side: usize) -> bool
     requires { ⌜ Read (networkIn (now net)) ⌝ }
     requires { ⌜ EndThere (now net) line side ⌝ }
     ensures { λ r. ⌜ r ≡ plainAtHV (networkIn (now (net .entry))) (endIn line side) ⌝ }
@@ -62,7 +62,7 @@ fn is_plain_at_hv(net: &[u64; 5129], line: usize, side: usize) -> bool
 }
 
 // Whether a line has a plain end at an HV station.
-fn is_unprotected(net: &[u64; 5129], line: usize) -> bool
+fn is_unprotected(net: &buffer::Net, line: usize) -> bool
     requires { ⌜ Read (networkIn (now net)) ⌝ }
     requires { ⌜ LineThere (now net) line ⌝ }
     ensures { λ r. ⌜ r ≡ unprotected (networkIn (now (net .entry))) line ⌝ }
@@ -71,7 +71,7 @@ fn is_unprotected(net: &[u64; 5129], line: usize) -> bool
 }
 
 // Rule 5: the first line with a plain end at an HV station, or 0.
-pub fn plain_at_hv(net: &[u64; 5129]) -> u64
+pub fn plain_at_hv(net: &buffer::Net) -> u64
     requires { ⌜ Read (networkIn (now net)) ⌝ }
     ensures { λ r. ⌜ r ≡ firstOr 0 (unprotected (networkIn (now (net .entry)))) (lineNumbers (networkIn (now (net .entry)))) ⌝ }
 {
@@ -108,7 +108,7 @@ fn rename(labels: &mut [u64; 512], x: u64, y: u64)
 }
 
 // Whether both ends of a line are closed.
-fn both_closed(net: &[u64; 5129], line: usize) -> bool
+fn both_closed(net: &buffer::Net, line: usize) -> bool
     requires { ⌜ LineThere (now net) line ⌝ }
     ensures { λ r. ⌜ r ≡ (not (isOpen (networkIn (now (net .entry))) (end1 line)) && not (isOpen (networkIn (now (net .entry))) (end2 line))) ⌝ }
 {
@@ -116,7 +116,7 @@ fn both_closed(net: &[u64; 5129], line: usize) -> bool
 }
 
 // Rule 6: whether a path returns to its start. Where none does, stations have one label where a path joins them.
-pub fn path_returns(net: &[u64; 5129], labels: &mut [u64; 512]) -> bool
+pub fn path_returns(net: &buffer::Net, labels: &mut [u64; 512]) -> bool
     requires { ⌜ Read (networkIn (now net)) ⌝ }
     requires { ⌜ firstOr 0 (bothOpen (networkIn (now net))) (lineNumbers (networkIn (now net))) ≡ 0 ⌝ }
     ensures { λ r. ⌜ r ≡ somePathReturns (networkIn (now (net .entry))) ⌝ }
@@ -145,7 +145,7 @@ fn label_of(labels: &[u64; 512], station: usize) -> usize
 }
 
 // Rule 7: whether a path joins two HV stations, that is, whether two have one label.
-pub fn hv_joined(net: &[u64; 5129], labels: &[u64; 512]) -> bool
+pub fn hv_joined(net: &buffer::Net, labels: &[u64; 512]) -> bool
     requires { ⌜ Read (networkIn (now net)) ⌝ }
     requires { ⌜ Labelled (networkIn (now net)) (length (networkIn (now net) .lines)) (now labels) ⌝ }
     ensures { λ r. ⌜ r ≡ someJoined (networkIn (now (net .entry))) ⌝ }
@@ -164,7 +164,7 @@ pub fn hv_joined(net: &[u64; 5129], labels: &[u64; 512]) -> bool
 }
 
 // The labels of the HV stations, marked by 1.
-fn hv_labels(net: &[u64; 5129], labels: &[u64; 512]) -> [u64; 513]
+fn hv_labels(net: &buffer::Net, labels: &[u64; 512]) -> [u64; 513]
     requires { ⌜ Read (networkIn (now net)) ⌝ }
     requires { ⌜ Labelled (networkIn (now net)) (length (networkIn (now net) .lines)) (now labels) ⌝ }
     ensures { λ r. ⌜ Marked (networkIn (now (net .entry))) (now (labels .entry)) (length (networkIn (now (net .entry)) .stations) + 1) r ⌝ }
@@ -180,7 +180,7 @@ fn hv_labels(net: &[u64; 5129], labels: &[u64; 512]) -> [u64; 513]
 }
 
 // Rule 8: the lowest station without supply, or 0.
-pub fn unsupplied(net: &[u64; 5129], labels: &[u64; 512]) -> u64
+pub fn unsupplied(net: &buffer::Net, labels: &[u64; 512]) -> u64
     requires { ⌜ Read (networkIn (now net)) ⌝ }
     requires { ⌜ Labelled (networkIn (now net)) (length (networkIn (now net) .lines)) (now labels) ⌝ }
     ensures { λ r. ⌜ r ≡ firstOr 0 (λ s. not (isSupplied (networkIn (now (net .entry))) s)) (stationNumbers (networkIn (now (net .entry)))) ⌝ }

@@ -12,7 +12,7 @@ ghost use Rattle.relations.specs.Climb.{isAbove, placeAbove, Among, Note
 
 // The next place above a place, the first that the path onward from it meets; 0 if there is none.
 fn above_of(
-    net: &[u64; 5129],
+    net: &buffer::Net,
     near: &[u64; 768],
     feed: &[u64; 768],
     marks: &[u64; 1537],
@@ -37,7 +37,7 @@ fn above_of(
 
 // The relations between a place and those above it: it is behind each of them, and each is on the path onward from it.
 fn climb(
-    net: &[u64; 5129],
+    net: &buffer::Net,
     near: &[u64; 768],
     feed: &[u64; 768],
     marks: &[u64; 1537],
@@ -65,7 +65,7 @@ fn no_relations(relations: &mut [u64; 4225])
 
 // How each place stands to each other.
 pub fn fill_relations(
-    net: &[u64; 5129],
+    net: &buffer::Net,
     near: &[u64; 768],
     feed: &[u64; 768],
     marks: &[u64; 1537],

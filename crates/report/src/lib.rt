@@ -14,7 +14,7 @@ ghost use Rattle.outage.specs.Held.{HoldsImpacts};
 ghost use Rattle.report.specs.Ready.{ArePlaces, Answered};
 
 // The A line, with the total and the SAIDI figure, at the start of a buffer; answers its length.
-fn put_totals(net: &[u64; 5129], total: u64, figure: u64, buf: &mut [u8]) -> usize
+fn put_totals(net: &buffer::Net, total: u64, figure: u64, buf: &mut [u8]) -> usize
     requires { ⌜ (total ≡ totalOf (networkIn (now net))) × (figure ≡ figureOf (networkIn (now net))) × (44 ≤ length (now buf)) ⌝ }
     ensures { λ r. ⌜ (r ≡ length (lineA (networkIn (now (net .entry))))) × (now (buf .exit) ≡ lineA (networkIn (now (net .entry))) ++ drop (length (lineA (networkIn (now (net .entry))))) (now (buf .entry))) × (r ≤ 44) ⌝ }
 {
@@ -22,7 +22,7 @@ fn put_totals(net: &[u64; 5129], total: u64, figure: u64, buf: &mut [u8]) -> usi
 }
 
 // The F line of a line, with the impact of a fault and the outage amount; answers its length.
-fn put_fault(net: &[u64; 5129], impacts: &[u64; 768], line: usize, buf: &mut [u8]) -> usize
+fn put_fault(net: &buffer::Net, impacts: &[u64; 768], line: usize, buf: &mut [u8]) -> usize
     requires { ⌜ Accepted (networkIn (now net)) × HoldsImpacts (networkIn (now net)) (now impacts) × (1 ≤ line) × (line ≤ length (networkIn (now net) .lines)) × (65 ≤ length (now buf)) ⌝ }
     ensures { λ r. ⌜ (r ≡ length (lineF (networkIn (now (net .entry))) line)) × (now (buf .exit) ≡ lineF (networkIn (now (net .entry))) line ++ drop (length (lineF (networkIn (now (net .entry))) line)) (now (buf .entry))) × (r ≤ 30) ⌝ }
 {
@@ -32,7 +32,7 @@ fn put_fault(net: &[u64; 5129], impacts: &[u64; 768], line: usize, buf: &mut [u8
 }
 
 // The F lines of all lines; answers their length.
-fn put_faults(net: &[u64; 5129], impacts: &[u64; 768], buf: &mut [u8]) -> usize
+fn put_faults(net: &buffer::Net, impacts: &[u64; 768], buf: &mut [u8]) -> usize
     requires { ⌜ Accepted (networkIn (now net)) × HoldsImpacts (networkIn (now net)) (now impacts) × (23105 ≤ length (now buf)) ⌝ }
     ensures { λ r. ⌜ (r ≡ length (flatMap (λ l. lineF (networkIn (now (net .entry))) l) (lineNumbers (networkIn (now (net .entry)))))) × (now (buf .exit) ≡ flatMap (λ l. lineF (networkIn (now (net .entry))) l) (lineNumbers (networkIn (now (net .entry)))) ++ drop (length (flatMap (λ l. lineF (networkIn (now (net .entry))) l) (lineNumbers (networkIn (now (net .entry)))))) (now (buf .entry))) × (r ≤ 23040) ⌝ }
 {
@@ -63,7 +63,7 @@ fn put_outcome(spent: bool, visits: u64, count: usize, best: u64, buf: &mut [u8]
 }
 
 // The B line of a place, with its line and its end; answers its length.
-fn put_member(net: &[u64; 5129], place: usize, buf: &mut [u8]) -> usize
+fn put_member(net: &buffer::Net, place: usize, buf: &mut [u8]) -> usize
     requires { ⌜ PlaceThere (now net) place × (44 ≤ length (now buf)) ⌝ }
     ensures { λ r. ⌜ (r ≡ length (lineB (networkIn (now (net .entry))) place)) × (now (buf .exit) ≡ lineB (networkIn (now (net .entry))) place ++ drop (length (lineB (networkIn (now (net .entry))) place)) (now (buf .entry))) × (r ≤ 44) ⌝ }
 {
@@ -73,7 +73,7 @@ fn put_member(net: &[u64; 5129], place: usize, buf: &mut [u8]) -> usize
 }
 
 // The B lines of the first `count` places of `members`; answers their length.
-fn put_members(net: &[u64; 5129], members: &[u64], count: usize, buf: &mut [u8]) -> usize
+fn put_members(net: &buffer::Net, members: &[u64], count: usize, buf: &mut [u8]) -> usize
     requires { ⌜ ArePlaces (now net) (now members) count × (length (now members) ≡ 16) × (count ≤ 16) × (704 ≤ length (now buf)) ⌝ }
     ensures { λ r. ⌜ (r ≡ length (flatMap (λ p. lineB (networkIn (now (net .entry))) p) (take count (now (members .entry))))) × (now (buf .exit) ≡ flatMap (λ p. lineB (networkIn (now (net .entry))) p) (take count (now (members .entry))) ++ drop (length (flatMap (λ p. lineB (networkIn (now (net .entry))) p) (take count (now (members .entry))))) (now (buf .entry))) × (r ≤ 704) ⌝ }
 {
@@ -86,7 +86,7 @@ fn put_members(net: &[u64; 5129], members: &[u64], count: usize, buf: &mut [u8])
 
 // Writes the report of an accepted network at the start of a buffer; answers its length.
 pub fn write_report(
-    net: &[u64; 5129],
+    net: &buffer::Net,
     impacts: &[u64; 768],
     total: u64,
     members: &[u64; 16],

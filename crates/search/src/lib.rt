@@ -47,7 +47,7 @@ fn copy_set(set: &[u64; 16], size: usize, best: &mut [u64; 16])
 
 // A visit of a set is due. At the limit the walk is spent. Else the visit is counted, and the set is best if its total is smaller.
 fn visit(
-    net: &[u64; 5129],
+    net: &buffer::Net,
     set: &[u64; 16],
     size: usize,
     total: Total,
@@ -85,14 +85,14 @@ fn visit(
 }
 
 // Whether a set with such a cost and such hours is within the file's money and hours.
-fn within_means(net: &[u64; 5129], cost: u64, hours: u64) -> bool
+fn within_means(net: &buffer::Net, cost: u64, hours: u64) -> bool
     ensures { λ r. ⌜ r ≡ (leb cost (networkIn (now (net .entry)) .head .money) && leb hours (networkIn (now (net .entry)) .head .hours)) ⌝ }
 {
     cost <= buffer::money(net) && hours <= buffer::hours(net)
 }
 
 // The cost of the set with one more place.
-fn cost_with(net: &[u64; 5129], current: Current, place: usize) -> u64
+fn cost_with(net: &buffer::Net, current: Current, place: usize) -> u64
     requires { ⌜ PlaceThere (now net) place × Read (networkIn (now net)) × (current .cost ≤ networkIn (now net) .head .money) × (current .hours ≤ networkIn (now net) .head .hours) ⌝ }
     ensures { λ r. ⌜ r ≡ current .cost + placeAt (networkIn (now (net .entry))) place .cost ⌝ }
 {
@@ -100,7 +100,7 @@ fn cost_with(net: &[u64; 5129], current: Current, place: usize) -> u64
 }
 
 // The hours of the set with one more place.
-fn hours_with(net: &[u64; 5129], current: Current, place: usize) -> u64
+fn hours_with(net: &buffer::Net, current: Current, place: usize) -> u64
     requires { ⌜ PlaceThere (now net) place × Read (networkIn (now net)) × (current .cost ≤ networkIn (now net) .head .money) × (current .hours ≤ networkIn (now net) .head .hours) ⌝ }
     ensures { λ r. ⌜ r ≡ current .hours + placeAt (networkIn (now (net .entry))) place .hours ⌝ }
 {
@@ -109,7 +109,7 @@ fn hours_with(net: &[u64; 5129], current: Current, place: usize) -> u64
 
 // Whether the set with one more place is allowed.
 fn may_get(
-    net: &[u64; 5129],
+    net: &buffer::Net,
     relations: &[u64; 4225],
     level: &[u64; 195],
     set: &[u64; 16],
@@ -131,7 +131,7 @@ fn may_get(
 
 // The set with one more place.
 fn with_place(
-    net: &[u64; 5129],
+    net: &buffer::Net,
     relations: &[u64; 4225],
     ends: &[u64; 65],
     sums: &[u64; 768],
@@ -158,7 +158,7 @@ fn with_place(
 // Whether a set with such a total is to be extended by places from `from` on: it may get `left`, some are left, the walk is not
 // spent, and by the bound they may do better than the best.
 fn goes_on(
-    net: &[u64; 5129],
+    net: &buffer::Net,
     bounds: &[u64; 1105],
     total: Total,
     from: usize,
@@ -182,7 +182,7 @@ fn goes_on(
 
 // Whether a set whose last member is `place` is to be extended, by `left` more places.
 fn goes_deeper(
-    net: &[u64; 5129],
+    net: &buffer::Net,
     bounds: &[u64; 1105],
     total: Total,
     place: usize,
@@ -197,7 +197,7 @@ fn goes_deeper(
 
 // The next place from `from` on that the set may get, unless the set is not to be extended from there on.
 fn next_place(
-    net: &[u64; 5129],
+    net: &buffer::Net,
     relations: &[u64; 4225],
     bounds: &[u64; 1105],
     level: &[u64; 195],
@@ -223,7 +223,7 @@ fn next_place(
 
 // The next place after `place` that the set may get, unless the set is not to be extended from there on.
 fn next_after(
-    net: &[u64; 5129],
+    net: &buffer::Net,
     relations: &[u64; 4225],
     bounds: &[u64; 1105],
     level: &[u64; 195],
@@ -254,7 +254,7 @@ fn next_after(
 
 // Extends the current set, which may get `left` more places, by each of the places from `from` on in rising order.
 fn extend(
-    net: &[u64; 5129],
+    net: &buffer::Net,
     relations: &[u64; 4225],
     ends: &[u64; 65],
     lists: &[u64; 4225],
@@ -332,7 +332,7 @@ fn extend(
 
 // The search: the empty set, whose total is the file's, is visited first, then it is extended by at most `adds` of the places.
 pub fn walk(
-    net: &[u64; 5129],
+    net: &buffer::Net,
     relations: &[u64; 4225],
     ends: &[u64; 65],
     lists: &[u64; 4225],

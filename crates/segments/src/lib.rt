@@ -30,7 +30,7 @@ fn trip_code(trips: &[u64; 768], i: usize) -> usize
 }
 
 // The weights of the lines that each breaker trips for, by the end's code.
-fn weights_tripped(net: &[u64; 5129], trips: &[u64; 768], weights: &mut [u64; 1537])
+fn weights_tripped(net: &buffer::Net, trips: &[u64; 768], weights: &mut [u64; 1537])
     requires { ⌜ Accepted (networkIn (now net)) × HoldsTrips (networkIn (now net)) (now trips) ⌝ }
     ensures { λ r. ⌜ HoldsWeights (networkIn (now (net .entry))) (now (weights .exit)) ⌝ }
 {
@@ -58,7 +58,7 @@ fn line_customers(sums: &[u64; 768], line: usize) -> Customers
 }
 
 // Whether an end has an entry: every breaker has one, whatever it trips for.
-fn has_entry(net: &[u64; 5129], line: usize, side: usize) -> bool
+fn has_entry(net: &buffer::Net, line: usize, side: usize) -> bool
     requires { ⌜ EndThere (now net) line side ⌝ }
     ensures { λ r. ⌜ r ≡ isBreaker (networkIn (now (net .entry))) (endIn line side) ⌝ }
 {
@@ -79,7 +79,7 @@ fn put_entry(table: &mut [u64], line: u64, side: u64, weight: Weight, customers:
 
 // The entry of an end, if it has one, at the start of a table; answers how many numbers it has.
 fn put_end(
-    net: &[u64; 5129],
+    net: &buffer::Net,
     sums: &[u64; 768],
     weights: &[u64; 1537],
     line: usize,
@@ -100,7 +100,7 @@ fn put_end(
 
 // The entries of a line's ends; answers how many numbers they have.
 fn put_ends(
-    net: &[u64; 5129],
+    net: &buffer::Net,
     sums: &[u64; 768],
     weights: &[u64; 1537],
     line: usize,
@@ -115,7 +115,7 @@ fn put_ends(
 
 // The entries of all lines, one behind another; answers how many there are.
 fn put_lines(
-    net: &[u64; 5129],
+    net: &buffer::Net,
     sums: &[u64; 768],
     weights: &[u64; 1537],
     table: &mut [u64],
@@ -133,7 +133,7 @@ fn put_lines(
 // Writes the segment table of an accepted network at the start of a buffer, from the code of the breaker that trips for each line
 // and the customers behind each line; answers how many entries it has.
 pub fn write_table(
-    net: &[u64; 5129],
+    net: &buffer::Net,
     trips: &[u64; 768],
     sums: &[u64; 768],
     table: &mut [u64],

@@ -17,7 +17,7 @@ ghost use Rattle.starts.specs.Own.{farRoute, farPlace, HoldsOwn, HoldsOw
 
 // The weight of the lines whose path meets each place first, of the breakers and places. Entry 0 is for the lines that meet a
 // breaker first.
-fn own_weights(net: &[u64; 5129], stops: &[u64; 768]) -> [u64; 65]
+fn own_weights(net: &buffer::Net, stops: &[u64; 768]) -> [u64; 65]
     requires { ⌜ Accepted (networkIn (now net)) × HoldsStops (networkIn (now net)) (now stops) ⌝ }
     ensures { λ r. ⌜ HoldsOwn (networkIn (now (net .entry))) r ⌝ }
 {
@@ -47,7 +47,7 @@ fn under(relations: &[u64; 4225], nears: &[u64], p: usize, s: usize) -> bool
 
 // The weight of a place before any is chosen: what is its own, and what is that of the places under it.
 fn start_weight(
-    net: &[u64; 5129],
+    net: &buffer::Net,
     relations: &[u64; 4225],
     own: &[u64; 65],
     nears: &[u64],
@@ -73,7 +73,7 @@ fn larger(a: u64, b: u64) -> u64
 }
 
 // The breakers on the path of the station that a line feeds: those on the line's, and its far end if that is one.
-fn far_count(net: &[u64; 5129], near: &[u64; 768], counts: &[u64; 768], line: usize) -> u64
+fn far_count(net: &buffer::Net, near: &[u64; 768], counts: &[u64; 768], line: usize) -> u64
     requires { ⌜ Accepted (networkIn (now net)) × HoldsSides (networkIn (now net)) (now near) × HoldsCounts (networkIn (now net)) (now counts) × LineThere (now net) line ⌝ }
     ensures { λ r. ⌜ r ≡ breakersOn (networkIn (now (net .entry))) (farRoute (networkIn (now (net .entry))) line) ⌝ }
 {
@@ -87,7 +87,7 @@ fn far_count(net: &[u64; 5129], near: &[u64; 768], counts: &[u64; 768], line: us
 // The first place on the path of the station that a line feeds: that on its far end, or else the first on the line's. It is 0 if
 // there is none, or the far end is open.
 fn far_place(
-    net: &[u64; 5129],
+    net: &buffer::Net,
     near: &[u64; 768],
     marks: &[u64; 1537],
     firsts: &[u64; 768],
@@ -110,7 +110,7 @@ fn far_place(
 // The most breakers on a path of a line or a station that meets each place first, of the places. Entry 0 is for the paths without
 // a place.
 fn own_worsts(
-    net: &[u64; 5129],
+    net: &buffer::Net,
     near: &[u64; 768],
     marks: &[u64; 1537],
     firsts: &[u64; 768],
@@ -130,7 +130,7 @@ fn own_worsts(
 }
 
 // The most breakers in series with a place before any is chosen: the most of what is its own, or of a place behind it.
-fn start_worst(net: &[u64; 5129], relations: &[u64; 4225], own: &[u64; 65], p: usize) -> u64
+fn start_worst(net: &buffer::Net, relations: &[u64; 4225], own: &[u64; 65], p: usize) -> u64
     requires { ⌜ Accepted (networkIn (now net)) × HoldsRelations (networkIn (now net)) (now relations) × HoldsOwnWorst (networkIn (now net)) (now own) × PlaceThere (now net) p ⌝ }
     ensures { λ r. ⌜ r ≡ worstAt (networkIn (now (net .entry))) [] (endAt (networkIn (now (net .entry))) p) ⌝ }
 {
@@ -144,7 +144,7 @@ fn start_worst(net: &[u64; 5129], relations: &[u64; 4225], own: &[u64; 65], p: u
 }
 
 // The codes of the breakers near the places.
-fn fill_nears(net: &[u64; 5129], trips: &[u64; 768], level: &mut [u64])
+fn fill_nears(net: &buffer::Net, trips: &[u64; 768], level: &mut [u64])
     requires { ⌜ Accepted (networkIn (now net)) × HoldsTrips (networkIn (now net)) (now trips) × (length (now level) ≡ 195) ⌝ }
     ensures { λ r. ⌜ HoldsNears (networkIn (now (net .entry))) (now (level .exit)) ⌝ }
 {
@@ -155,7 +155,7 @@ fn fill_nears(net: &[u64; 5129], trips: &[u64; 768], level: &mut [u64])
 
 // The weights of the places and the most breakers in series with them, in a level that has the codes of the breakers near them.
 fn fill_values(
-    net: &[u64; 5129],
+    net: &buffer::Net,
     relations: &[u64; 4225],
     own: &[u64; 65],
     worst: &[u64; 65],
@@ -172,7 +172,7 @@ fn fill_values(
 
 // The level of the empty set: of each place the breaker near it, its weight and the most breakers in series with it.
 fn fill_start(
-    net: &[u64; 5129],
+    net: &buffer::Net,
     trips: &[u64; 768],
     relations: &[u64; 4225],
     own: &[u64; 65],
@@ -188,7 +188,7 @@ fn fill_start(
 
 // The level of the empty set, from what the path of each line meets first and how the places stand to each other.
 pub fn start_level(
-    net: &[u64; 5129],
+    net: &buffer::Net,
     near: &[u64; 768],
     marks: &[u64; 1537],
     trips: &[u64; 768],

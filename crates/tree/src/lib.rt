@@ -19,7 +19,7 @@ ghost use Rattle.tree.specs.Queue.{leaving, Room, Added, Queue, Reached}
 ghost use Rattle.tree.specs.Counts.{pathBreakers, Fed};
 
 // Whether the end with a code is closed.
-fn is_closed(net: &[u64; 5129], code: usize) -> bool
+fn is_closed(net: &buffer::Net, code: usize) -> bool
     requires { ⌜ CodeThere (networkIn (now net)) code ⌝ }
     ensures { λ r. ⌜ r ≡ not (isOpen (networkIn (now (net .entry))) (codeEnd code)) ⌝ }
 {
@@ -27,7 +27,7 @@ fn is_closed(net: &[u64; 5129], code: usize) -> bool
 }
 
 // The station that the end with a code is at.
-fn station_of(net: &[u64; 5129], code: usize) -> usize
+fn station_of(net: &buffer::Net, code: usize) -> usize
     requires { ⌜ CodeThere (networkIn (now net)) code ⌝ }
     ensures { λ r. ⌜ (r ≡ stationAt (networkIn (now (net .entry))) (codeEnd code)) × (1 ≤ r) × (r ≤ length (networkIn (now (net .entry)) .stations)) ⌝ }
 {
@@ -43,7 +43,7 @@ fn clear(heads: &mut [u64; 512], nexts: &mut [u64; 1536])
 }
 
 // The list of the closed ends at each station, by rising codes.
-pub fn link_ends(net: &[u64; 5129], heads: &mut [u64; 512], nexts: &mut [u64; 1536])
+pub fn link_ends(net: &buffer::Net, heads: &mut [u64; 512], nexts: &mut [u64; 1536])
     requires { ⌜ Read (networkIn (now net)) ⌝ }
     ensures { λ r. ⌜ Linked (networkIn (now (net .entry))) (now (heads .exit)) (now (nexts .exit)) ⌝ }
 {
@@ -100,7 +100,7 @@ fn append(
 
 // The lines that leave the HV stations. Returns how many there are.
 fn from_hv(
-    net: &[u64; 5129],
+    net: &buffer::Net,
     heads: &[u64; 512],
     nexts: &[u64; 1536],
     near: &mut [u64; 768],
@@ -123,7 +123,7 @@ fn from_hv(
 // The lines that leave the far station of the line at place i of the order, if its far end is closed, follow the n lines there.
 // Returns how many lines the order has then.
 fn from_line(
-    net: &[u64; 5129],
+    net: &buffer::Net,
     heads: &[u64; 512],
     nexts: &[u64; 1536],
     near: &mut [u64; 768],
@@ -156,7 +156,7 @@ fn from_line(
 
 // The near end and the feeding line of each line, and an order of all lines from the HV stations outwards.
 pub fn outwards(
-    net: &[u64; 5129],
+    net: &buffer::Net,
     heads: &[u64; 512],
     nexts: &[u64; 1536],
     near: &mut [u64; 768],
@@ -175,7 +175,7 @@ pub fn outwards(
 }
 
 // 1 if an end, 1 or 2, of a line is a breaker, and 0 if not.
-fn breaker(net: &[u64; 5129], line: usize, side: usize) -> u64
+fn breaker(net: &buffer::Net, line: usize, side: usize) -> u64
     requires { ⌜ EndThere (now net) line side ⌝ }
     ensures { λ r. ⌜ (r ≡ on (isBreaker (networkIn (now (net .entry))) (endIn line side)) 1) × (r ≤ 1) ⌝ }
 {
@@ -188,7 +188,7 @@ fn breaker(net: &[u64; 5129], line: usize, side: usize) -> u64
 
 // The breakers on a line's path to the HV station, from those on the path of the line that feeds it.
 fn path_breakers(
-    net: &[u64; 5129],
+    net: &buffer::Net,
     near: &[u64; 768],
     feed: &[u64; 768],
     counts: &[u64; 768],
@@ -212,7 +212,7 @@ fn no_counts() -> [u64; 768] {
 
 // Whether a path from an HV station passes more breakers than the series rule allows.
 pub fn over_series(
-    net: &[u64; 5129],
+    net: &buffer::Net,
     near: &[u64; 768],
     feed: &[u64; 768],
     order: &[u64; 768],
