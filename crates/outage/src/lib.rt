@@ -237,10 +237,18 @@ pub fn total_of(net: &buffer::Net, impacts: &[u64; 768]) -> Total
     total
 }
 
+// Customers without supply multiplied by minutes.
+pub fn customer_minutes(minutes: u64, total: u64) -> u64
+    requires { ⌜ (minutes ≤ 1440) × (total ≤ 7864320000000000) ⌝ }
+    ensures { λ r. ⌜ r ≡ minutes * total ⌝ }
+{
+    minutes * total
+}
+
 // The SAIDI figure of a network's total: minutes times the total.
 pub fn figure_of(net: &buffer::Net, total: u64) -> u64
     requires { ⌜ Read (networkIn (now net)) × (total ≡ totalOf (networkIn (now net))) ⌝ }
     ensures { λ r. ⌜ r ≡ figure (networkIn (now (net .entry))) ⌝ }
 {
-    buffer::minutes(net) * total
+    customer_minutes(buffer::minutes(net), total)
 }

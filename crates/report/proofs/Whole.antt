@@ -12,6 +12,7 @@ use Rattle.model.specs.Sets.{placeNumbers}
 use Rattle.model.specs.Walk.{Found, search}
 use Rattle.model.specs.Text.{printedLine, lineA, lineF, lineC, lineB, reportText}
 use Rattle.theory.specs.Ends.{numbers-in}
+use Rattle.theory.specs.Sizes.{read-sized, setTotal-size}
 use Rattle.theory.specs.Best.{search-answered}
 use Rattle.buffer.specs.Buffer.{networkIn}
 use Rattle.outage.proofs.Calls.{read-fits}
@@ -27,6 +28,13 @@ part-has P (Sublistᴰ·cons-cons e s) h (suc i) k = part-has P s (λ p m. h p (
 member-within : (N : Network) {S : List ℕ} → Sublistᴰ S (placeNumbers N) → (i : ℕ) → i < length S → (1 ≤ getD S i 0) × (getD S i 0 ≤ length (N .places))
 unfolding placeNumbers
 member-within N s = part-has (λ p. (1 ≤ p) × (p ≤ length (N .places))) s (λ p m. let r = numbers-in p 1 (length (N .places)) m in (r .0, omega (arith, r .1)))
+
+-- the total that the search answers is one that a file can have
+pub best-size : {N : Network} {impacts : List ℕ} {amount : ℕ} {members : List ℕ} {count best visits : ℕ} {spent : Bool}
+    → Answered N impacts amount members count best visits spent → best ≤ 7864320000000000
+best-size {N} a =
+    let r = search-answered N (a .accepted) in
+    omega (arith, ap (λ (f : Found). f .best) (a .found), r .hasTotal, setTotal-size N (read-sized N (a .accepted .read)) (search N .members))
 
 module _ (N : Network) (impacts : List ℕ) (amount : ℕ) (members : List ℕ) (count best visits : ℕ) (spent : Bool)
     (long : length members ≡ 16) (a : Answered N impacts amount members count best visits spent) where

@@ -7,6 +7,7 @@ ghost use lib.ListN.{length, take, drop};
 ghost use Rattle.model.specs.Paths.{lineNumbers};
 ghost use Rattle.model.specs.Outage.{total as totalOf, figure as figureOf};
 ghost use Rattle.model.specs.Text.{printedLine, lineA, lineF, lineB, reportText};
+ghost use Rattle.theory.specs.Reading.{Read};
 ghost use Rattle.theory.specs.Best.{Accepted};
 ghost use Rattle.buffer.specs.Buffer.{networkIn};
 ghost use Rattle.buffer.specs.Fits.{PlaceThere};
@@ -62,6 +63,21 @@ fn put_outcome(spent: bool, visits: u64, count: usize, best: u64, buf: &mut [u8]
     )
 }
 
+// The C line of what the search of a network found, with the total itself and not that of customer minutes; answers its length.
+fn put_found(
+    net: &buffer::Net,
+    spent: bool,
+    visits: u64,
+    count: usize,
+    best: u64,
+    buf: &mut [u8],
+) -> usize
+    requires { ⌜ Read (networkIn (now net)) × (best ≤ 7864320000000000) × (86 ≤ length (now buf)) ⌝ }
+    ensures { λ r. ⌜ (r ≡ length (printedLine 67 (elim spent [ true ↦ 0 | false ↦ 1 ] ∷ visits ∷ count ∷ best ∷ []))) × (now (buf .exit) ≡ printedLine 67 (elim spent [ true ↦ 0 | false ↦ 1 ] ∷ visits ∷ count ∷ best ∷ []) ++ drop (length (printedLine 67 (elim spent [ true ↦ 0 | false ↦ 1 ] ∷ visits ∷ count ∷ best ∷ []))) (now (buf .entry))) × (r ≤ 86) ⌝ }
+{
+    put_outcome(spent, visits, count, best, buf)
+}
+
 // The B line of a place, with its line and its end; answers its length.
 fn put_member(net: &buffer::Net, place: usize, buf: &mut [u8]) -> usize
     requires { ⌜ PlaceThere (now net) place × (44 ≤ length (now buf)) ⌝ }
@@ -102,6 +118,6 @@ pub fn write_report(
     let figure = outage::figure_of(net, total);
     let mut at = put_totals(net, total, figure, buf);
     at = at + put_faults(net, impacts, &mut buf[at..]);
-    at = at + put_outcome(spent, visits, count, best, &mut buf[at..]);
+    at = at + put_found(net, spent, visits, count, best, &mut buf[at..]);
     at + put_members(net, members, count, &mut buf[at..])
 }

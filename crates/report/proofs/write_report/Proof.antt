@@ -8,7 +8,7 @@ use Rattle.model.specs.Text.{printedLine, lineA, lineF, lineB, reportText}
 use Rattle.buffer.specs.Buffer.{networkIn}
 use Rattle.text.proofs.Over.{over}
 use Rattle.text.proofs.Listing.{same-text, behind}
-use Rattle.report.proofs.Whole.{are-places, report-is}
+use Rattle.report.proofs.Whole.{are-places, best-size, report-is}
 use borrow.Author.Needs.{needs}
 use Rattle.report.proofs.write_report.Statement.{statement}
 use Rattle.report.proofs.write_report.Tie as tie
@@ -34,17 +34,19 @@ put-faults-requires c κs = search needs
 add-at : tie.Need-add-at
 add-at c = search needs
 
-sub-put-outcome : tie.Need-sub-put-outcome
-sub-put-outcome c = search needs
+sub-put-found : tie.Need-sub-put-found
+sub-put-found c = search needs
 
-part-put-outcome-start : tie.Need-part-put-outcome-start
-part-put-outcome-start c = search needs
+part-put-found-start : tie.Need-part-put-found-start
+part-put-found-start c = search needs
 
-part-put-outcome-end : tie.Need-part-put-outcome-end
-part-put-outcome-end c = search needs
+part-put-found-end : tie.Need-part-put-found-end
+part-put-found-end c = search needs
 
-put-outcome-requires : tie.Need-put-outcome-requires
-put-outcome-requires c κs = search needs
+put-found-requires : tie.Need-put-found-requires
+put-found-requires c κs =
+    let s = c .before .before .before .before .before .before .before .before .before .before .before in
+    (s .pre .0 .accepted .read, best-size (s .pre .0), search needs)
 
 add-at-2 : tie.Need-add-at-2
 add-at-2 c = search needs
@@ -77,7 +79,7 @@ returns c =
     let long : length (s .args .members .now) ≡ 16 = search needs in
     let a = c .before .before .before .before .before .before .before .before .before .before .before .before .before .before .before .put-totals in
     let f = c .before .before .before .before .before .before .before .before .before .before .before .put-faults in
-    let o = c .before .before .before .before .before .before .before .put-outcome in
+    let o = c .before .before .before .before .before .before .before .put-found in
     let m = c .before .before .put-members in
     let N = networkIn (s .args .net .now) in
     let b = s .args .buf .now in
@@ -86,7 +88,7 @@ returns c =
     let C : List ℕ = printedLine 67 ((elim (s .args .spent) [ true ↦ 0 | false ↦ 1 ]) ∷ s .args .visits ∷ s .args .count ∷ s .args .best ∷ []) in
     let M : List ℕ = flatMap (λ p. lineB N p) (take (s .args .count) (s .args .members .now)) in
     let t2 = behind A F b (a .last .1 .1 .1 .0) (f .last .1 .1 .0) _ _ (a .ensures .0, a .ensures .1) (f .ensures .0) (f .ensures .1) in
-    let t3 = behind (A ++ F) C b _ (o .last .1 .1 .1 .1 .0) _ _ t2 (o .ensures .0) (o .ensures .1) in
+    let t3 = behind (A ++ F) C b _ (o .last .1 .1 .1 .1 .1 .0) _ _ t2 (o .ensures .0) (o .ensures .1) in
     let t4 = behind ((A ++ F) ++ C) M b _ (m .last .1 .1 .1 .0) _ _ t3 (m .ensures .0) (m .ensures .1) in
     same-text (((A ++ F) ++ C) ++ M) (reportText N) b _ _ (report-is _ _ _ _ _ _ _ _ long (s .pre .0)) (t4 .0) (t4 .1)
 
@@ -101,10 +103,10 @@ write-report-spec =
     part-put-faults-end
     put-faults-requires
     add-at
-    sub-put-outcome
-    part-put-outcome-start
-    part-put-outcome-end
-    put-outcome-requires
+    sub-put-found
+    part-put-found-start
+    part-put-found-end
+    put-found-requires
     add-at-2
     sub-put-members
     part-put-members-start
