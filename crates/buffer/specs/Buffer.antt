@@ -26,7 +26,10 @@ linesAt = 1033
 abbrev pub placesAt : ℕ
 placesAt = 4873
 
--- how many numbers a station, a line and a place have
+-- how many numbers the head, a station, a line and a place have
+abbrev pub headWidth : ℕ
+headWidth = 8
+
 abbrev pub stationWidth : ℕ
 stationWidth = 2
 

@@ -1,3 +1,4 @@
 pub mod Buffer
 pub mod Fits
 pub mod Fields
+pub mod Parts

@@ -22,7 +22,9 @@ pub const LINES_AT: usize = 1033;
 
 pub const PLACES_AT: usize = 4873;
 
-// How many numbers a line and a place have.
+// How many numbers the head, a line and a place have.
+pub const HEAD_WIDTH: usize = 8;
+
 pub const LINE_WIDTH: usize = 5;
 
 pub const PLACE_WIDTH: usize = 4;

@@ -2,16 +2,17 @@
 use Prim.Native.Nat.{ℕ, zero, suc, _+_, _*_, _-_, _≤_, _<_}
 use mathlib.Core.Path.{_≡_, refl, sym, ap, ap₂, _∙_}
 use mathlib.Core.List.{List, [], _∷_, _++_, map, map-append}
-use native.Mathlib.Nat.{mul-zero, mul-suc, suc-mul, zero-mul}
+use native.Mathlib.Nat.{mul-zero, mul-suc}
 use native.Mathlib.Numerals.{sub-one, add-one}
 use native.Mathlib.Omega.{arith}
-use lib.ListN.{length, getD, take, drop, set, length-drop, length-set}
+use lib.ListN.{length, take, drop, set, length-drop, length-set}
 use lib.Seq.{drop-drop, drop-set-add, drop-set-lt, take-set-le, take-set-lt, getD-set-same, getD-set-other, length-take-le, set-set, set-append-seam}
 use Rattle.model.specs.Lists.{renumbered}
 use Rattle.model.specs.Network.{Head, Station, Line, Place, Network, value, headOf, stationOf, lineOf, placeOf}
 use Rattle.buffer.specs.Buffer.{size, addsAt, stationsAt, linesAt, placesAt, placeCountAt, stationWidth, lineWidth, placeWidth, recordsIn, networkIn}
 use Rattle.buffer.specs.Fits.{Fits, LineThere, PlaceThere}
 use Rattle.buffer.specs.Fields.{station-count, line-count, place-count, line-at}
+use Rattle.buffer.specs.Parts.{records-last}
 use Rattle.network_changes.specs.Changed.{lineWithState, lineWithWeight, withLines, withLine, withState, withWeight, withAdds, withPlaces, withPlace, withFirstPlaces, withOneMore}
 
 -- ── records one behind the other ──
@@ -47,15 +48,6 @@ module _ (width : ℕ) where
   records-first zero n b h = refl
   records-first (suc m) zero b h = absurd (omega arith)
   records-first (suc m) (suc n) b h = ap (λ rs. take width b ∷ rs) (records-first m n (drop width b) (omega arith))
-
-  -- n records and the one behind them
-  pub records-last : (n : ℕ) (b : List ℕ) → recordsIn width (suc n) b ≡ recordsIn width n b ++ (take width (drop (width * n) b) ∷ [])
-  unfolding recordsIn
-  records-last zero b = ap (λ i. take width (drop i b) ∷ []) (sym (mul-zero width))
-  records-last (suc n) b =
-      ap (λ rs. take width b ∷ rs) (records-last n (drop width b))
-      ∙ ap (λ (b′ : List ℕ). take width b ∷ (recordsIn width n (drop width b) ++ (take width b′ ∷ [])))
-      (drop-drop (width * n) width b ∙ ap (λ i. drop i b) {x = width + width * n} {y = width * suc n} (omega (arith, mul-suc width n)))
 
 map-set : {A B : Type 0} (f : A → B) (xs : List A) (k : ℕ) (x : A) → map f (set xs k x) ≡ set (map f xs) k (f x)
 map-set f [] k x = refl
@@ -330,7 +322,7 @@ module _ (b : List ℕ) (h : 8 < length b) where
     unfolding withPlace withPlaces withOneMore renumbered networkIn
     one-more p =
         let ps = networkIn b .places in
-        let r = take placeWidth (drop (placeWidth * n) (drop placesAt b)) in
+        let r = take placeWidth (drop (n * placeWidth) (drop placesAt b)) in
         ap (λ (x : List ℕ). withPlace (networkIn x) (n + 1) p) d
         ∙ ap (λ m. withPlace (networkIn (set b placeCountAt m)) m p) (add-one n)
         ∙ ap (λ (N : Network). withPlace N (suc n) p)

@@ -1,5 +1,4 @@
 pub mod Placed
-pub mod Kept
 pub mod Following
 pub mod InBuffer
 pub mod Whole

@@ -4,18 +4,20 @@ use mathlib.Core.List.{List, [], _∷_, map}
 use Prim.Native.Nat.{ℕ, _+_, _≤_, _<_}
 use native.Mathlib.Omega.{arith}
 use lib.ListN.{length, take, drop, length-drop}
-use lib.Seq.{take-append-le, length-take-le}
+use lib.Seq.{length-take-le}
 use borrow.Author.Tests.{le-leb, lt-leb}
-use borrow.Rule.Slice.PartMut.{putMid, postOf, same-len-mid}
 use Rattle.model.specs.Answer.{Answer, given, refused, _>>=_}
 use Rattle.model.specs.Format.{Record, recordsOf}
 use Rattle.model.specs.Ranges.{rows}
-use Rattle.model.specs.Network.{Head, Station, Line, Network, Kind, value, kindN, kindS, kindL, headOf, stationOf, lineOf, noPlace, readRecord, readRecords, readPlaces, readAfterHead, readFile, networkOf}
-use Rattle.buffer.specs.Buffer.{recordsIn}
-use Rattle.reader.specs.Buffer.{stationsIn, linesIn, withPlaces}
+use Rattle.model.specs.Network.{Head, Station, Line, Network, Kind, kindN, kindS, kindL, headOf, stationOf, lineOf, noPlace, readRecord, readRecords, readPlaces, readAfterHead, readFile, networkOf}
+use Rattle.buffer.specs.Buffer.{size, stationsAt, linesAt, headWidth, stationWidth, lineWidth, recordsIn, networkIn}
+use Rattle.buffer.specs.Parts.{stations-in, lines-in, stations-counted, lines-counted, head-kept, head-before, stations-kept}
+use Rattle.network_changes.specs.Changed.{withPlaces}
+use Rattle.reader.specs.Places.{withPlacesOf}
 use Rattle.records.specs.Kinds.{letters, kindAt, nextRecord}
-use Rattle.records.proofs.Buffers.{part-records}
-use Rattle.reader.proofs.Kept.{network, head-kept, value-kept, stations-kept, put-before}
+use Rattle.records.specs.Steps.{forward, within}
+use Rattle.records.specs.declared.Step.{Step}
+use Rattle.records.specs.declared.Step.the-variants.{Next, Stopped}
 use Rattle.records.proofs.Next.{next-in-range}
 use Rattle.records.proofs.Ranged.{head-bounds}
 use Rattle.records.proofs.Several.{in-turn}
@@ -38,10 +40,10 @@ Records = List (List ℕ) × List Record
 -- ── behind the head ──
 -- the places, then the network
 withParts : Head → List Station → List Line → List Record → Answer Network
-unfolding network
-withParts h s l rs = readPlaces h l (2 + h .stations + h .lines) 0 noPlace rs >>= λ ps. given (network h s l ps)
+withParts h s l rs = readPlaces h l (2 + h .stations + h .lines) 0 noPlace rs >>= λ ps. given (record { head = h; stations = s; lines = l; places = ps })
 
-module _ (h : Head) (rs : List Record) where
+-- a file of `s` stations and `l` lines
+module _ (h : Head) (s l : ℕ) (es : s ≡ h .stations) (el : l ≡ h .lines) (rs : List Record) where
   afterLines : List (List ℕ) → Records → Answer Network
   afterLines xs l = withParts h (map stationOf xs) (map lineOf (l .0)) (l .1)
 
@@ -49,74 +51,64 @@ module _ (h : Head) (rs : List Record) where
   afterStations s = readRecords (h .stations) (h .lines) (2 + h .stations) (kindAt 2) (h .lines) (s .1) >>= afterLines (s .0)
 
   in-parts : readAfterHead h rs ≡ (readRecords (h .stations) (h .lines) 2 (kindAt 1) (h .stations) rs >>= afterStations)
-  unfolding readAfterHead afterStations afterLines withParts network
+  unfolding readAfterHead afterStations afterLines withParts
   in-parts =
       ap₂ (λ (x y : Kind). readRecords (h .stations) (h .lines) 2 x (h .stations) rs >>= λ s. readRecords (h .stations) (h .lines) (2 + h .stations) y (h .lines) (s .1) >>= afterLines (s .0)) kind-S kind-L
 
-  with-stations : (a : Answer Records) → a ≡ readRecords (h .stations) (h .lines) 2 (kindAt 1) (h .stations) rs → (a >>= afterStations) ≡ readAfterHead h rs
-  with-stations a e = ap (λ (x : Answer Records). x >>= afterStations) e ∙ sym in-parts
+  with-stations : (a : Answer Records) → a ≡ readRecords s l 2 (kindAt 1) s rs → (a >>= afterStations) ≡ readAfterHead h rs
+  with-stations a e = ap (λ (x : Answer Records). x >>= afterStations) (e ∙ ap₂ (λ x y. readRecords x y 2 (kindAt 1) x rs) es el) ∙ sym in-parts
 
-  pub stations-stopped : (number place : ℕ) → refused number place ≡ readRecords (h .stations) (h .lines) 2 (kindAt 1) (h .stations) rs → refused number place ≡ readAfterHead h rs
+  pub stations-stopped : (number place : ℕ) → refused number place ≡ readRecords s l 2 (kindAt 1) s rs → refused number place ≡ readAfterHead h rs
   stations-stopped number place e = with-stations (refused number place) e
 
-  module _ (xs : List (List ℕ)) (rs₁ : List Record) (e : given (xs, rs₁) ≡ readRecords (h .stations) (h .lines) 2 (kindAt 1) (h .stations) rs) where
-    with-lines : (a : Answer Records) → a ≡ readRecords (h .stations) (h .lines) (2 + h .stations) (kindAt 2) (h .lines) rs₁ → (a >>= afterLines xs) ≡ readAfterHead h rs
+  module _ (xs : List (List ℕ)) (rs₁ : List Record) (e : given (xs, rs₁) ≡ readRecords s l 2 (kindAt 1) s rs) where
+    with-lines : (a : Answer Records) → a ≡ readRecords s l (2 + s) (kindAt 2) l rs₁ → (a >>= afterLines xs) ≡ readAfterHead h rs
     unfolding afterStations
-    with-lines a d = ap (λ (x : Answer Records). x >>= afterLines xs) d ∙ with-stations (given (xs, rs₁)) e
+    with-lines a d = ap (λ (x : Answer Records). x >>= afterLines xs) (d ∙ ap₂ (λ x y. readRecords x y (2 + x) (kindAt 2) y rs₁) es el) ∙ with-stations (given (xs, rs₁)) e
 
-    pub lines-stopped : (number place : ℕ) → refused number place ≡ readRecords (h .stations) (h .lines) (2 + h .stations) (kindAt 2) (h .lines) rs₁ → refused number place ≡ readAfterHead h rs
+    pub lines-stopped : (number place : ℕ) → refused number place ≡ readRecords s l (2 + s) (kindAt 2) l rs₁ → refused number place ≡ readAfterHead h rs
     lines-stopped number place d = with-lines (refused number place) d
 
-    pub places-left : (ys : List (List ℕ)) (rs₂ : List Record) → given (ys, rs₂) ≡ readRecords (h .stations) (h .lines) (2 + h .stations) (kindAt 2) (h .lines) rs₁
-        → (net : List ℕ) → headOf net ≡ h → stationsIn net ≡ map stationOf xs → linesIn net ≡ map lineOf ys → withPlaces net rs₂ ≡ readAfterHead h rs
-    unfolding withPlaces withParts afterLines network
-    places-left ys rs₂ d net i s l =
-        ap₂ (λ (x : Head) (y : List Station). withParts x y (linesIn net) rs₂) i s
-        ∙ ap (λ (x : List Line). withParts h (map stationOf xs) x rs₂) l
+    pub places-left : (ys : List (List ℕ)) (rs₂ : List Record) → given (ys, rs₂) ≡ readRecords s l (2 + s) (kindAt 2) l rs₁
+        → (N : Network) → N .head ≡ h → N .stations ≡ map stationOf xs → N .lines ≡ map lineOf ys → withPlacesOf N rs₂ ≡ readAfterHead h rs
+    unfolding withPlacesOf withPlaces withParts afterLines
+    places-left ys rs₂ d N i t k =
+        ap₂ (λ (x : Head) (y : List Station). withParts x y (N .lines) rs₂) i t
+        ∙ ap (λ (x : List Line). withParts h (map stationOf xs) x rs₂) k
         ∙ with-lines (given (ys, rs₂)) d
 
--- ── the stations and the lines written ──
+-- ── the buffer with the stations read, then with the lines read ──
+module _ (net net₁ net₂ : List ℕ) (same₁ : take stationsAt net₁ ≡ take stationsAt net) (same₂ : take linesAt net₂ ≡ take linesAt net₁) where
+  head₁ : networkIn net₁ .head ≡ networkIn net .head
+  head₁ = head-kept net₁ net same₁
+
+  pub head₂ : networkIn net₂ .head ≡ networkIn net .head
+  head₂ = head-kept net₂ net₁ (head-before net₂ net₁ same₂) ∙ head₁
+
+  module _ (s l : ℕ) (es : s ≡ length (networkIn net .stations)) (el : l ≡ length (networkIn net .lines)) where
+    pub stations₂ : length net₁ ≡ size → length net₂ ≡ size → s ≤ 512 → networkIn net₂ .stations ≡ map stationOf (recordsIn stationWidth s (drop stationsAt net₁))
+    stations₂ h k f =
+        stations-kept net₂ net₁ same₂ (omega arith) (omega arith) (omega (arith, es, stations-counted net, ap (λ (x : Head). x .stations) head₂))
+        ∙ stations-in net₁
+        ∙ ap (λ n. map stationOf (recordsIn stationWidth n (drop stationsAt net₁))) (ap (λ (x : Head). x .stations) head₁ ∙ sym (es ∙ stations-counted net))
+
+    pub lines₂ : networkIn net₂ .lines ≡ map lineOf (recordsIn lineWidth l (drop linesAt net₂))
+    lines₂ = lines-in net₂ ∙ ap (λ n. map lineOf (recordsIn lineWidth n (drop linesAt net₂))) (ap (λ (x : Head). x .lines) head₂ ∙ sym (el ∙ lines-counted net))
+
+    pub fits₂ : s ≤ 512 → l ≤ 768 → (length (networkIn net₂ .stations) ≤ 512) × (length (networkIn net₂ .lines) ≤ 768)
+    fits₂ f g = (
+      omega (arith, f, es, stations-counted net, stations-counted net₂, ap (λ (x : Head). x .stations) head₂),
+      omega (arith, g, el, lines-counted net, lines-counted net₂, ap (λ (x : Head). x .lines) head₂),
+    )
+
+-- ── parts of the buffer and steps ──
 pub part-long : (a m : ℕ) (b : List ℕ) → a + m ≤ length b → length (take m (drop a b)) ≡ m
 part-long a m b h = length-take-le m (drop a b) (omega (arith, length-drop a b))
 
-module _ (net d₁ : List ℕ) (long : length net ≡ 5129) (long₁ : length d₁ ≡ 1024) where
-  abbrev net₁ : List ℕ
-  net₁ = putMid 9 1024 net d₁
-
-  pub length₁ : length net₁ ≡ 5129
-  length₁ = same-len-mid 9 1024 net d₁ (long₁ ∙ sym (part-long 9 1024 net (omega arith))) ∙ long
-
-  same₁ : take 9 net₁ ≡ take 9 net
-  same₁ = put-before 9 9 1024 net d₁ (omega arith) (omega arith)
-
-  module _ (d₂ : List ℕ) (long₂ : length d₂ ≡ 3840) where
-    abbrev net₂ : List ℕ
-    net₂ = putMid 1033 3840 net₁ d₂
-
-    pub length₂ : length net₂ ≡ 5129
-    length₂ = same-len-mid 1033 3840 net₁ d₂ (long₂ ∙ sym (part-long 1033 3840 net₁ (omega (arith, length₁)))) ∙ length₁
-
-    same₂ : take 1033 net₂ ≡ take 1033 net₁
-    same₂ = put-before 1033 1033 3840 net₁ d₂ (omega arith) (omega (arith, length₁))
-
-    pub values-same : (i : ℕ) → i < 9 → value net₂ i ≡ value net i
-    values-same i h = value-kept 1033 net₂ net₁ same₂ i (omega arith) ∙ value-kept 9 net₁ net same₁ i h
-
-    pub head-same : headOf net₂ ≡ headOf net
-    head-same = head-kept 1033 net₂ net₁ same₂ (omega arith) ∙ head-kept 9 net₁ net same₁ (omega arith)
-
-    pub stations-written : value net 0 ≤ 512 → stationsIn net₂ ≡ map stationOf (recordsIn 2 (value net 0) d₁)
-    unfolding stationsIn headOf
-    stations-written h =
-        stations-kept 1033 net₂ net₁ same₂ (omega (arith, length₂)) (omega (arith, length₁)) (omega arith) (omega (arith, values-same 0 (omega arith)))
-        ∙ ap (λ (n : ℕ). map stationOf (recordsIn 2 n (drop 9 net₁))) (value-kept 9 net₁ net same₁ 0 (omega arith))
-        ∙ ap (map stationOf) (part-records 2 (value net 0) 9 1024 net d₁ (omega arith) (omega arith))
-
-    pub lines-written : value net 1 ≤ 768 → linesIn net₂ ≡ map lineOf (recordsIn 5 (value net 1) d₂)
-    unfolding linesIn headOf
-    lines-written h =
-        ap (λ (n : ℕ). map lineOf (recordsIn 5 n (drop 1033 net₂))) (values-same 1 (omega arith))
-        ∙ ap (map lineOf) (part-records 5 (value net 1) 1033 3840 net₁ d₂ (omega (arith, length₁)) (omega arith))
+pub forward-within : (file : List ℕ) (from : ℕ) (s : Step) → forward file from s → within file s
+unfolding forward within
+forward-within file from (Next at) f = f .1
+forward-within file from (Stopped number place) f = f
 
 -- ── the head ──
 afterHead : List ℕ × List Record → Answer Network
@@ -132,24 +124,19 @@ from-head (r ∷ rs) =
 pub head-stopped : (rs : List Record) (number place : ℕ) → refused number place ≡ nextRecord 0 0 1 (kindAt 0) rs → refused number place ≡ readFile rs
 head-stopped rs number place e = ap (λ (a : Answer (List ℕ × List Record)). a >>= afterHead) e ∙ sym (from-head rs)
 
-module _ (rs : List Record) (v : List ℕ) (rest : List Record) (e : given (v, rest) ≡ nextRecord 0 0 1 (kindAt 0) rs) (net : List ℕ) (long : length v ≡ 8) where
-  head-here : take 8 (putMid 0 8 net v) ≡ take 8 v
-  head-here = take-append-le 8 v (postOf 0 8 net) (omega arith)
-
-  pub head-read : readAfterHead (headOf (putMid 0 8 net v)) rest ≡ readFile rs
+module _ (rs : List Record) (v : List ℕ) (rest : List Record) (e : given (v, rest) ≡ nextRecord 0 0 1 (kindAt 0) rs) (h : Head) (here : h ≡ headOf v) where
+  pub head-read : readAfterHead h rest ≡ readFile rs
   unfolding afterHead
   head-read =
-      ap (λ (h : Head). readAfterHead h rest) (head-kept 8 (putMid 0 8 net v) v head-here (omega arith))
+      ap (λ (x : Head). readAfterHead x rest) here
       ∙ ap (λ (a : Answer (List ℕ × List Record)). a >>= afterHead) e
       ∙ sym (from-head rs)
 
-  pub head-fits : (value (putMid 0 8 net v) 0 ≤ 512) × (value (putMid 0 8 net v) 1 ≤ 768)
-  unfolding kindAt
-  head-fits =
-      let b = head-bounds v long (next-in-range 0 0 1 (kindAt 0) rs v rest e) in (
-        omega (arith, b .0, value-kept 8 (putMid 0 8 net v) v head-here 0 (omega arith)),
-        omega (arith, b .1, value-kept 8 (putMid 0 8 net v) v head-here 1 (omega arith)),
-      )
+  pub head-fits : length v ≡ headWidth → (h .stations ≤ 512) × (h .lines ≤ 768)
+  unfolding kindAt headOf
+  head-fits long =
+      let b = head-bounds v long (next-in-range 0 0 1 (kindAt 0) rs v rest e) in
+      (omega (arith, b .0, ap (λ (x : Head). x .stations) here), omega (arith, b .1, ap (λ (x : Head). x .lines) here))
 
 -- ── the length ──
 pub too-long : (file : List ℕ) → 32768 < length file → refused 1 0 ≡ networkOf file

@@ -1,2 +1,2 @@
-pub mod Buffer
+pub mod Places
 pub mod Says

@@ -1,12 +1,17 @@
 // The reader of a network file: its bytes to numbers, with the refusals 1 to 3.
 ghost use mathlib.Core.Path.{_≡_};
 ghost use mathlib.Core.Bool.{true, false};
-ghost use Prim.Native.Nat.{_≤_, _<_};
-ghost use lib.ListN.{length, drop};
+ghost use Prim.Native.Nat.{_+_, _≤_, _<_};
+ghost use lib.ListN.{length, take, drop};
 ghost use Rattle.model.specs.Format.{recordsOf};
-ghost use Rattle.model.specs.Network.{value, headOf, readAfterHead, readFile, networkOf, placeOf, comesAfter, wellPlaced};
+ghost use Rattle.model.specs.Network.{value, readRecords, readAfterHead, readFile, networkOf, placeOf, comesAfter, wellPlaced};
+ghost use Rattle.buffer.specs.Buffer.{size, stationsAt, linesAt, headWidth, stationWidth, lineWidth, recordsIn, networkIn};
+ghost use Rattle.buffer.specs.Fits.{EndThere};
+ghost use Rattle.records.specs.Kinds.{kindAt, nextRecord};
+ghost use Rattle.records.specs.Steps.{stepSays, within};
 ghost use Rattle.reader.specs.Says.{readSays};
-ghost use Rattle.reader.specs.Buffer.{linesIn, withPlaces};
+ghost use Rattle.reader.specs.Places.{withPlacesOf};
+use buffer::Net;
 use records::Step;
 
 // The network of the file is in the buffer, or the file is refused.
@@ -26,9 +31,9 @@ fn comes_after(before: &[u64; 4], place: &[u64; 4]) -> bool
 }
 
 // Whether a place may follow `n` places, the last of them `before`: it is not the 65th, comes after `before` and is on a plain end.
-fn well_placed(net: &[u64], n: usize, before: &[u64; 4], place: &[u64; 4]) -> bool
-    requires { ⌜ (length (now net) ≡ 5129) × (value (now net) 1 ≤ 768) × (1 ≤ value (now place) 0) × (value (now place) 0 ≤ value (now net) 1) × (1 ≤ value (now place) 1) × (value (now place) 1 ≤ 2) ⌝ }
-    ensures { λ r. ⌜ r ≡ wellPlaced (linesIn (now (net .entry))) n (placeOf (now (before .entry))) (placeOf (now (place .entry))) ⌝ }
+fn well_placed(net: &Net, n: usize, before: &[u64; 4], place: &[u64; 4]) -> bool
+    requires { ⌜ EndThere (now net) (value (now place) 0) (value (now place) 1) ⌝ }
+    ensures { λ r. ⌜ r ≡ wellPlaced (networkIn (now (net .entry)) .lines) n (placeOf (now (before .entry))) (placeOf (now (place .entry))) ⌝ }
 {
     if 64 <= n {
         return false;
@@ -36,34 +41,22 @@ fn well_placed(net: &[u64], n: usize, before: &[u64; 4], place: &[u64; 4]) -> bo
     if !comes_after(before, place) {
         return false;
     }
-    let line = 1033 + 5 * (place[0] as usize - 1);
-    let state = line + 2 + place[1] as usize;
-    net[state] == 0
-}
-
-// Writes a place's numbers over a part of the buffer.
-fn put_place(place: &[u64], out: &mut [u64])
-    requires { ⌜ (length (now place) ≡ 4) × (length (now out) ≡ 4) ⌝ }
-    ensures { λ _. ⌜ now (out .exit) ≡ now (place .entry) ⌝ }
-{
-    out[0] = place[0];
-    out[1] = place[1];
-    out[2] = place[2];
-    out[3] = place[3];
+    buffer::end_state(net, place[0] as usize, place[1] as usize) == 0
 }
 
 // Reads the places of a file whose head, stations and lines are in the buffer.
-fn read_places(file: &[u8], from: usize, net: &mut [u64]) -> ReadAnswer
-    requires { ⌜ (from ≤ length (now file)) × (length (now net) ≡ 5129) × (value (now net) 0 ≤ 512) × (value (now net) 1 ≤ 768) ⌝ }
-    ensures { λ r. ⌜ readSays r (now (net .exit)) ≡ withPlaces (now (net .entry)) (recordsOf (drop from (now (file .entry)))) ⌝ }
+fn read_places(file: &[u8], from: usize, net: &mut Net) -> ReadAnswer
+    requires { ⌜ (from ≤ length (now file)) × (length (networkIn (now net) .stations) ≤ 512) × (length (networkIn (now net) .lines) ≤ 768) ⌝ }
+    ensures { λ r. ⌜ readSays r (now (net .exit)) ≡ withPlacesOf (networkIn (now (net .entry))) (recordsOf (drop from (now (file .entry)))) ⌝ }
 {
-    let stations = net[0];
-    let lines = net[1];
+    network_changes::keep_places(net, 0);
+    let stations = buffer::stations(net) as u64;
+    let lines = buffer::lines(net) as u64;
     let mut before = [0u64; 4];
     let mut place = [0u64; 4];
     let mut at = from;
-    let mut n: usize = 0;
     while at < file.len() {
+        let n = buffer::places(net);
         let i = 2 + stations + lines + n as u64;
         let step = records::read_record(file, at, 3, i, stations, lines, &mut place);
         match step {
@@ -78,50 +71,79 @@ fn read_places(file: &[u8], from: usize, net: &mut [u64]) -> ReadAnswer
                 record: i,
             };
         }
-        let a = 4873 + 4 * n;
-        let e = a + 4;
-        put_place(&place, &mut net[a..e]);
+        network_changes::add_place(
+            net,
+            place[0] as usize,
+            place[1] as usize,
+            place[2],
+            place[3],
+        );
         before = place;
-        n += 1;
     }
-    net[8] = n as u64;
     ReadAnswer::Read
 }
 
-// Reads the stations, the lines and the places of a file whose head is in the buffer.
-fn read_after_head(file: &[u8], from: usize, net: &mut [u64]) -> ReadAnswer
-    requires { ⌜ (from ≤ length (now file)) × (length (now net) ≡ 5129) × (value (now net) 0 ≤ 512) × (value (now net) 1 ≤ 768) ⌝ }
-    ensures { λ r. ⌜ readSays r (now (net .exit)) ≡ readAfterHead (headOf (now (net .entry))) (recordsOf (drop from (now (file .entry)))) ⌝ }
+// Reads the head of a file into its part of the buffer.
+fn read_head(file: &[u8], net: &mut [u64]) -> Step
+    requires { ⌜ length (now net) ≡ size ⌝ }
+    ensures { λ r. ⌜ stepSays (now (file .entry)) r (take headWidth (now (net .exit))) ≡ nextRecord 0 0 1 (kindAt 0) (recordsOf (now (file .entry))) ⌝ }
+    ensures { λ r. ⌜ within (now (file .entry)) r ⌝ }
 {
-    let stations = net[0];
-    let lines = net[1];
-    let mut at = from;
-    let step = records::read_records(
+    records::read_record(file, 0, 0, 1, 0, 0, &mut net[0..buffer::HEAD_WIDTH])
+}
+
+// Reads the stations of a file into their part of the buffer.
+fn read_stations(file: &[u8], from: usize, stations: usize, lines: usize, net: &mut [u64]) -> Step
+    requires { ⌜ (from ≤ length (now file)) × (stations ≤ 512) × (length (now net) ≡ size) ⌝ }
+    ensures { λ r. ⌜ stepSays (now (file .entry)) r (recordsIn stationWidth stations (drop stationsAt (now (net .exit)))) ≡ readRecords stations lines 2 (kindAt 1) stations (recordsOf (drop from (now (file .entry)))) ⌝ }
+    ensures { λ r. ⌜ within (now (file .entry)) r × (take stationsAt (now (net .exit)) ≡ take stationsAt (now (net .entry))) ⌝ }
+{
+    records::read_records(
         file,
-        at,
+        from,
         1,
         2,
-        stations as usize,
         stations,
+        stations as u64,
+        lines as u64,
+        &mut net[buffer::STATIONS_AT..buffer::LINES_AT],
+    )
+}
+
+// Reads the lines of a file into their part of the buffer.
+fn read_lines(file: &[u8], from: usize, stations: usize, lines: usize, net: &mut [u64]) -> Step
+    requires { ⌜ (from ≤ length (now file)) × (stations ≤ 512) × (lines ≤ 768) × (length (now net) ≡ size) ⌝ }
+    ensures { λ r. ⌜ stepSays (now (file .entry)) r (recordsIn lineWidth lines (drop linesAt (now (net .exit)))) ≡ readRecords stations lines (2 + stations) (kindAt 2) lines (recordsOf (drop from (now (file .entry)))) ⌝ }
+    ensures { λ r. ⌜ within (now (file .entry)) r × (take linesAt (now (net .exit)) ≡ take linesAt (now (net .entry))) ⌝ }
+{
+    records::read_records(
+        file,
+        from,
+        2,
+        2 + stations as u64,
         lines,
-        &mut net[9..1033],
-    );
+        stations as u64,
+        lines as u64,
+        &mut net[buffer::LINES_AT..buffer::PLACES_AT],
+    )
+}
+
+// Reads the stations, the lines and the places of a file whose head is in the buffer.
+fn read_after_head(file: &[u8], from: usize, net: &mut Net) -> ReadAnswer
+    requires { ⌜ (from ≤ length (now file)) × (length (networkIn (now net) .stations) ≤ 512) × (length (networkIn (now net) .lines) ≤ 768) ⌝ }
+    ensures { λ r. ⌜ readSays r (now (net .exit)) ≡ readAfterHead (networkIn (now (net .entry)) .head) (recordsOf (drop from (now (file .entry)))) ⌝ }
+{
+    let stations = buffer::stations(net);
+    let lines = buffer::lines(net);
+    let mut at = from;
+    let step = read_stations(file, at, stations, lines, net);
     match step {
         Step::Stopped { number, record } => return ReadAnswer::Refused { number, record },
         Step::Next(next) => {
             at = next;
         }
     }
-    let step = records::read_records(
-        file,
-        at,
-        2,
-        2 + stations,
-        lines as usize,
-        stations,
-        lines,
-        &mut net[1033..4873],
-    );
+    let step = read_lines(file, at, stations, lines, net);
     match step {
         Step::Stopped { number, record } => return ReadAnswer::Refused { number, record },
         Step::Next(next) => {
@@ -131,12 +153,11 @@ fn read_after_head(file: &[u8], from: usize, net: &mut [u64]) -> ReadAnswer
     read_places(file, at, net)
 }
 
-// Reads the records of a file into a buffer of 5,129 numbers.
-fn read_file(file: &[u8], net: &mut [u64]) -> ReadAnswer
-    requires { ⌜ length (now net) ≡ 5129 ⌝ }
+// Reads the records of a file into the buffer.
+fn read_file(file: &[u8], net: &mut Net) -> ReadAnswer
     ensures { λ r. ⌜ readSays r (now (net .exit)) ≡ readFile (recordsOf (now (file .entry))) ⌝ }
 {
-    let step = records::read_record(file, 0, 0, 1, 0, 0, &mut net[0..8]);
+    let step = read_head(file, net);
     match step {
         Step::Stopped { number, record } => ReadAnswer::Refused { number, record },
         Step::Next(next) => read_after_head(file, next, net),
@@ -151,7 +172,7 @@ fn too_long(bytes: usize) -> bool
 }
 
 // Reads a network file into the buffer, or says why it is refused: for its length, then record by record.
-pub fn read(file: &[u8], net: &mut buffer::Net) -> ReadAnswer
+pub fn read(file: &[u8], net: &mut Net) -> ReadAnswer
     ensures { λ r. ⌜ readSays r (now (net .exit)) ≡ networkOf (now (file .entry)) ⌝ }
 {
     if too_long(file.len()) {

@@ -4,29 +4,11 @@ use borrow.Author.Needs.{needs}
 use Rattle.reader.proofs.comes_after.Statement.{statement}
 use Rattle.reader.proofs.comes_after.Tie as tie
 
-element-copy-out-if1 : tie.Need-element-copy-out-if1
-element-copy-out-if1 c = search needs
-
-element-copy-out-if1-2 : tie.Need-element-copy-out-if1-2
-element-copy-out-if1-2 c = search needs
-
 returns : tie.Need-returns
 unfolding comesAfter placeOf
 returns c =
     let a = c .before .before .before .args in
     line-before (value (a .before .now) 0) (value (a .place .now) 0) (value (a .before .now) 1) (value (a .place .now) 1) (c .if1 .taken)
-
-element-copy-out-if2 : tie.Need-element-copy-out-if2
-element-copy-out-if2 c = search needs
-
-element-copy-out-if2-2 : tie.Need-element-copy-out-if2-2
-element-copy-out-if2-2 c = search needs
-
-element-copy-out-result : tie.Need-element-copy-out-result
-element-copy-out-result c = search needs
-
-element-copy-out-result-2 : tie.Need-element-copy-out-result-2
-element-copy-out-result-2 c = search needs
 
 returns-2 : tie.Need-returns-2
 unfolding comesAfter placeOf
@@ -44,12 +26,12 @@ pub comes-after-spec : {M : Type 1} → statement M
 comes-after-spec =
     tie.close
     (tie.spec
-    element-copy-out-if1
-    element-copy-out-if1-2
+    (search needs)
+    (search needs)
     returns
-    element-copy-out-if2
-    element-copy-out-if2-2
-    element-copy-out-result
-    element-copy-out-result-2
+    (search needs)
+    (search needs)
+    (search needs)
+    (search needs)
     returns-2
     returns-3)

@@ -9,11 +9,8 @@ returns : tie.Need-returns
 unfolding readSays
 returns c = too-long (c .before .before .before .args .file .now) (c .before .too-long .ensures .0 (c .if1 .taken))
 
-read-file-requires : tie.Need-read-file-requires
-read-file-requires c κs = search needs
-
 returns-2 : tie.Need-returns-2
 returns-2 c = c .read-file .ensures ∙ not-too-long (c .before .before .before .before .before .args .file .now) (c .before .before .before .too-long .ensures .1 (c .before .before .if1 .left))
 
 pub read-spec : {M : Type 1} → statement M
-read-spec = tie.close (tie.spec (search needs) returns read-file-requires returns-2)
+read-spec = tie.close (tie.spec (search needs) returns (search needs) returns-2)

@@ -1,85 +1,41 @@
 use mathlib.Core.Path.{_∙_}
 use native.Mathlib.Omega.{arith}
-use lib.ListN.{drop}
-use borrow.Rule.Slice.PartMut.{same-len-mid}
+use lib.ListN.{take, drop}
+use lib.Seq.{length-take-le}
 use Rattle.model.specs.Format.{recordsOf}
-use Rattle.model.specs.Ranges.{rows, rowN}
+use Rattle.buffer.specs.Buffer.{headWidth, networkIn}
+use Rattle.buffer.specs.Parts.{head-in, stations-counted, lines-counted}
+use Rattle.records.proofs.Steps.{says-next, says-stopped, next-within}
 use Rattle.reader.specs.Says.{readSays}
-use Rattle.records.proofs.Steps.{says-next, says-stopped, next-forward}
-use Rattle.reader.proofs.Whole.{part-long, head-stopped, head-read, head-fits}
+use Rattle.reader.proofs.Whole.{head-stopped, head-read, head-fits}
 use borrow.Author.Needs.{needs}
 use Rattle.reader.proofs.read_file.Statement.{statement}
 use Rattle.reader.proofs.read_file.Tie as tie
 
-sub-read-record : tie.Need-sub-read-record
-sub-read-record c = search needs
-
-part-read-record-start : tie.Need-part-read-record-start
-part-read-record-start c = search needs
-
-part-read-record-end : tie.Need-part-read-record-end
-part-read-record-end c = search needs
-
-read-record-requires : tie.Need-read-record-requires
-unfolding rows rowN
-read-record-requires c κs = (omega arith, omega arith, part-long 0 8 (c .before .before .before .args .net .now) (omega arith))
-
-enum-known-step : tie.Need-enum-known-step
-enum-known-step c = search needs
-
-enum-known-step-2 : tie.Need-enum-known-step-2
-enum-known-step-2 c = search needs
-
 read-after-head-requires : tie.Need-read-after-head-requires
 read-after-head-requires c κs =
-    let a = c .before .before .before .before .before .before .before .before .before .before .args in
-    let r = c .before .before .before .before .before .before .read-record in
-    let s = c .before .before .step2 in
-    let d = r .last .1 .1 .1 .1 .1 .1 .0 in
-    let kept = r .kept .1 .1 .1 .1 .1 .1 .0 in
-    let fits = head-fits (recordsOf (a .file .now)) d (recordsOf (drop (s .given .0 .0) (a .file .now)))
-    (says-next (a .file .now) (r .result) d _ (r .ensures .0) (s .given .0 .0) (s .given .1)) (a .net .now) (kept ∙ part-long 0 8 (a .net .now) (omega arith)) in (
-      next-forward (a .file .now) 0 (r .result) (r .ensures .1) (s .given .0 .0) (s .given .1) .1,
-      same-len-mid 0 8 (a .net .now) d kept ∙ c .before .before .before .before .before .before .before .before .before .before .pre,
-      fits .0,
-      fits .1,
-    )
-
-same-length : tie.Need-same-length
-same-length c = search needs
+    let a = c .before .before .before .before .before .before .before .args in
+    let r = c .before .before .before .before .read-head in
+    let t = c .before .before .step2 in
+    let b = r .last .1 .0 in
+    let f = head-fits (recordsOf (a .file .now)) (take headWidth b) (recordsOf (drop (t .given .0 .0) (a .file .now))) (says-next (a .file .now) (r .result) _ _ (r .ensures .0) (t .given .0 .0) (t .given .1)) (networkIn b .head) (head-in b) (length-take-le headWidth b (search needs)) in
+    (next-within (a .file .now) (r .result) (r .ensures .1) (t .given .0 .0) (t .given .1), omega (arith, f .0, stations-counted b), omega (arith, f .1, lines-counted b))
 
 returns : tie.Need-returns
 unfolding readSays
 returns c =
-    let a = c .before .before .before .before .before .before .before .before .before .args in
-    let r = c .before .before .before .before .before .read-record in
-    head-stopped (recordsOf (a .file .now)) _ _ (says-stopped (a .file .now) (r .result) (r .last .1 .1 .1 .1 .1 .1 .0) _ (r .ensures .0) _ _ (c .before .step .given .1))
-
-same-length-2 : tie.Need-same-length-2
-same-length-2 c = search needs
+    let a = c .before .before .before .before .before .before .args in
+    let r = c .before .before .before .read-head in
+    head-stopped (recordsOf (a .file .now)) _ _ (says-stopped (a .file .now) (r .result) _ _ (r .ensures .0) _ _ (c .before .step .given .1))
 
 returns-2 : tie.Need-returns-2
 returns-2 c =
-    let a = c .before .before .before .before .before .before .before .before .before .before .before .before .before .args in
-    let r = c .before .before .before .before .before .before .before .before .before .read-record in
-    let s = c .before .before .before .before .before .step2 in
-    let d = r .last .1 .1 .1 .1 .1 .1 .0 in
-    c .before .before .read-after-head .ensures
-    ∙ head-read (recordsOf (a .file .now)) d (recordsOf (drop (s .given .0 .0) (a .file .now)))
-    (says-next (a .file .now) (r .result) d _ (r .ensures .0) (s .given .0 .0) (s .given .1)) (a .net .now) (r .kept .1 .1 .1 .1 .1 .1 .0 ∙ part-long 0 8 (a .net .now) (omega (arith, c .before .before .before .before .before .before .before .before .before .before .before .before .before .pre)))
+    let a = c .before .before .before .before .before .before .before .before .args in
+    let r = c .before .before .before .before .before .read-head in
+    let t = c .before .before .before .step2 in
+    let b = r .last .1 .0 in
+    c .read-after-head .ensures
+    ∙ head-read (recordsOf (a .file .now)) (take headWidth b) (recordsOf (drop (t .given .0 .0) (a .file .now))) (says-next (a .file .now) (r .result) _ _ (r .ensures .0) (t .given .0 .0) (t .given .1)) (networkIn b .head) (head-in b)
 
 pub read-file-spec : {M : Type 1} → statement M
-read-file-spec =
-    tie.close
-    (tie.spec
-    sub-read-record
-    part-read-record-start
-    part-read-record-end
-    read-record-requires
-    enum-known-step
-    enum-known-step-2
-    read-after-head-requires
-    same-length
-    returns
-    same-length-2
-    returns-2)
+read-file-spec = tie.close (tie.spec (search needs) (search needs) (search needs) read-after-head-requires returns returns-2)
