@@ -1,11 +1,13 @@
 -- A network with one of its fields changed.
 use Prim.Native.Nat.{ℕ}
+use mathlib.Core.Path.{_≡_, refl}
 use mathlib.Core.Bool.{true, false}
 use mathlib.Core.List.{List, [], _∷_, _++_}
 use lib.Dec.{eqb}
 use lib.ListN.{take}
 use Rattle.model.specs.Lists.{numbered, renumbered}
 use Rattle.model.specs.Network.{Network, Line, Place, noLine}
+use Rattle.model.specs.Sets.{lineWithBreaker, withBreaker}
 
 -- a line with another state at one of its ends
 unfoldable pub lineWithState : ℕ → ℕ → Line → Line
@@ -29,10 +31,14 @@ unfoldable pub withLine : Network → ℕ → (Line → Line) → Network
 unfolding withLines numbered renumbered
 withLine N line f = withLines N (renumbered (N .lines) line (f (numbered noLine (N .lines) line)))
 
--- the network with another state at an end, and with another weight of a line
+-- the network with another state at an end, of which a breaker is the state 1; and with another weight of a line
 unfoldable pub withState : Network → (line side state : ℕ) → Network
 unfolding withLine lineWithState
 withState N line side state = withLine N line (lineWithState side state)
+
+pub breaker-is-state : (N : Network) (p : Place) → withBreaker N p ≡ withState N (p .line) (p .side) 1
+unfolding withBreaker lineWithBreaker withState withLine withLines lineWithState
+breaker-is-state N p = refl
 
 unfoldable pub withWeight : Network → (line weight : ℕ) → Network
 unfolding withLine lineWithWeight

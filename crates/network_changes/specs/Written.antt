@@ -18,7 +18,7 @@ use Rattle.network_changes.specs.Changed.{lineWithState, lineWithWeight,
 -- ── records one behind the other ──
 module _ (width : ℕ) where
   -- a number written behind n records
-  pub records-before : (n : ℕ) (b : List ℕ) (j v : ℕ) → width * n ≤ j → recordsIn width n (set b j v) ≡ recordsIn width n b
+  records-before : (n : ℕ) (b : List ℕ) (j v : ℕ) → width * n ≤ j → recordsIn width n (set b j v) ≡ recordsIn width n b
   unfolding recordsIn
   records-before zero b j v h = refl
   records-before (suc n) b j v h =
@@ -28,7 +28,7 @@ module _ (width : ℕ) where
       ∙ records-before n (drop width b) (j - width) v (omega (arith, mul-suc width n)))
 
   -- number i of record k written, both counted from 0
-  pub record-set : (n k i : ℕ) (b : List ℕ) (v : ℕ) → i < width → recordsIn width n (set b (width * k + i) v) ≡ set (recordsIn width n b) k (set (take width (drop (width * k) b)) i v)
+  record-set : (n k i : ℕ) (b : List ℕ) (v : ℕ) → i < width → recordsIn width n (set b (width * k + i) v) ≡ set (recordsIn width n b) k (set (take width (drop (width * k) b)) i v)
   unfolding recordsIn
   record-set zero k i b v h = refl
   record-set (suc n) zero i b v h =
@@ -43,7 +43,7 @@ module _ (width : ℕ) where
       (drop-drop (width * k) width b ∙ ap (λ j. drop j b) {x = width + width * k} {y = width * suc k} (omega (arith, mul-suc width k)))
 
   -- the first of n records
-  pub records-first : (m n : ℕ) (b : List ℕ) → m ≤ n → recordsIn width m b ≡ take m (recordsIn width n b)
+  records-first : (m n : ℕ) (b : List ℕ) → m ≤ n → recordsIn width m b ≡ take m (recordsIn width n b)
   unfolding recordsIn
   records-first zero n b h = refl
   records-first (suc m) zero b h = absurd (omega arith)
@@ -60,7 +60,7 @@ map-take f (suc n) [] = refl
 map-take {B = B} f (suc n) (x ∷ xs) = ap (λ (ys : List B). f x ∷ ys) (map-take f n xs)
 
 -- number i of record k, of the records that begin at `start`, counted from 1
-pub numbered-set : {A : Type 0} (f : List ℕ → A) (width start n k i j v : ℕ) (b : List ℕ) → 1 ≤ k → i < width → j ≡ start + width * (k - 1) + i
+numbered-set : {A : Type 0} (f : List ℕ → A) (width start n k i j v : ℕ) (b : List ℕ) → 1 ≤ k → i < width → j ≡ start + width * (k - 1) + i
     → map f (recordsIn width n (drop start (set b j v))) ≡ renumbered (map f (recordsIn width n (drop start b))) k (f (set (take width (drop (start + width * (k - 1)) b)) i v))
 unfolding renumbered
 numbered-set f width start n zero i j v b l h e = absurd (omega arith)
@@ -257,39 +257,39 @@ module _ (b : List ℕ) (r₀ : Room b) (k : ℕ) (low : 1 ≤ k) (high : k ≤ 
       ∙ place-again (networkIn b) k _ p
 
 -- ── a number of the head, and the number of places ──
-module _ (b : List ℕ) (h : 8 < length b) where
+module _ (b : List ℕ) (h : placeCountAt < length b) where
   pub adds-written : (adds : ℕ) → networkIn (set b addsAt adds) ≡ withAdds (networkIn b) adds
   unfolding networkIn headOf withAdds network
   adds-written adds = rw (
-    getD-set-other b 4 0 adds 0 (λ e. omega arith),
-    getD-set-other b 4 1 adds 0 (λ e. omega arith),
-    getD-set-other b 4 2 adds 0 (λ e. omega arith),
-    getD-set-other b 4 3 adds 0 (λ e. omega arith),
-    getD-set-same b 4 adds 0 (omega arith),
-    getD-set-other b 4 5 adds 0 (λ e. omega arith),
-    getD-set-other b 4 6 adds 0 (λ e. omega arith),
-    getD-set-other b 4 7 adds 0 (λ e. omega arith),
-    getD-set-other b 4 8 adds 0 (λ e. omega arith),
-    drop-set-lt stationsAt b 4 adds (omega arith),
-    drop-set-lt linesAt b 4 adds (omega arith),
-    drop-set-lt placesAt b 4 adds (omega arith),
+    getD-set-other b addsAt 0 adds 0 (λ e. omega arith),
+    getD-set-other b addsAt 1 adds 0 (λ e. omega arith),
+    getD-set-other b addsAt 2 adds 0 (λ e. omega arith),
+    getD-set-other b addsAt 3 adds 0 (λ e. omega arith),
+    getD-set-same b addsAt adds 0 (omega arith),
+    getD-set-other b addsAt 5 adds 0 (λ e. omega arith),
+    getD-set-other b addsAt 6 adds 0 (λ e. omega arith),
+    getD-set-other b addsAt 7 adds 0 (λ e. omega arith),
+    getD-set-other b addsAt 8 adds 0 (λ e. omega arith),
+    drop-set-lt stationsAt b addsAt adds (omega arith),
+    drop-set-lt linesAt b addsAt adds (omega arith),
+    drop-set-lt placesAt b addsAt adds (omega arith),
   )
 
   counted : (n : ℕ) → networkIn (set b placeCountAt n) ≡ withPlaces (networkIn b) (map placeOf (recordsIn placeWidth n (drop placesAt b)))
   unfolding networkIn headOf withPlaces network
   counted n = rw (
-    getD-set-other b 8 0 n 0 (λ e. omega arith),
-    getD-set-other b 8 1 n 0 (λ e. omega arith),
-    getD-set-other b 8 2 n 0 (λ e. omega arith),
-    getD-set-other b 8 3 n 0 (λ e. omega arith),
-    getD-set-other b 8 4 n 0 (λ e. omega arith),
-    getD-set-other b 8 5 n 0 (λ e. omega arith),
-    getD-set-other b 8 6 n 0 (λ e. omega arith),
-    getD-set-other b 8 7 n 0 (λ e. omega arith),
-    getD-set-same b 8 n 0 h,
-    drop-set-lt stationsAt b 8 n (omega arith),
-    drop-set-lt linesAt b 8 n (omega arith),
-    drop-set-lt placesAt b 8 n (omega arith),
+    getD-set-other b placeCountAt 0 n 0 (λ e. omega arith),
+    getD-set-other b placeCountAt 1 n 0 (λ e. omega arith),
+    getD-set-other b placeCountAt 2 n 0 (λ e. omega arith),
+    getD-set-other b placeCountAt 3 n 0 (λ e. omega arith),
+    getD-set-other b placeCountAt 4 n 0 (λ e. omega arith),
+    getD-set-other b placeCountAt 5 n 0 (λ e. omega arith),
+    getD-set-other b placeCountAt 6 n 0 (λ e. omega arith),
+    getD-set-other b placeCountAt 7 n 0 (λ e. omega arith),
+    getD-set-same b placeCountAt n 0 h,
+    drop-set-lt stationsAt b placeCountAt n (omega arith),
+    drop-set-lt linesAt b placeCountAt n (omega arith),
+    drop-set-lt placesAt b placeCountAt n (omega arith),
   )
 
   pub fewer-places : (n : ℕ) → n ≤ length (networkIn b .places) → networkIn (set b placeCountAt n) ≡ withFirstPlaces (networkIn b) n

@@ -45,10 +45,6 @@ module _ (N N₀ : Network) (e : N₀ ≡ withFirstPlaces N 0) where
   unfolding withFirstPlaces withPlaces
   fits-start h k = subst Fits (sym e) (record { stations = h; lines = k; places = omega arith })
 
-pub fits-more : (N M : Network) (p : Place) → M ≡ withOneMore N p → Fits N → length (N .places) < 64 → Fits M
-unfolding withOneMore withPlaces
-fits-more N M p e f h = subst Fits (sym e) (record { stations = f .stations; lines = f .lines; places = omega (arith, length-append (N .places) (p ∷ [])) })
-
 pub kept : (N M : Network) (p : Place) → M ≡ withOneMore N p → (length (N .stations) ≡ length (M .stations)) × (length (N .lines) ≡ length (M .lines))
 unfolding withOneMore withPlaces
 kept N M p e = (ap (λ (x : Network). length (x .stations)) (sym e), ap (λ (x : Network). length (x .lines)) (sym e))

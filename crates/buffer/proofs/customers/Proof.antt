@@ -4,21 +4,9 @@ use borrow.Author.Needs.{needs}
 use Rattle.buffer.proofs.customers.Statement.{statement}
 use Rattle.buffer.proofs.customers.Tie as tie
 
-mul-result : tie.Need-mul-result
-mul-result c = search needs
-
-add-result : tie.Need-add-result
-add-result c = search needs
-
-mul-result-2 : tie.Need-mul-result-2
-mul-result-2 c = search needs
-
-element-copy-out-result : tie.Need-element-copy-out-result
-element-copy-out-result c = search needs
-
 returns : tie.Need-returns
 returns c = let a = c .before .args in sym (customers-at (a .net .now) (a .station) (search needs) (search needs))
 
 pub customers-spec : {M : Type 1} → statement M
 customers-spec =
-    tie.close (tie.spec mul-result add-result mul-result-2 element-copy-out-result returns)
+    tie.close (tie.spec (search needs) (search needs) (search needs) (search needs) returns)

@@ -4,11 +4,8 @@ use borrow.Author.Needs.{needs}
 use Rattle.buffer.proofs.lines.Statement.{statement}
 use Rattle.buffer.proofs.lines.Tie as tie
 
-element-copy-out-result : tie.Need-element-copy-out-result
-element-copy-out-result c = search needs
-
 returns : tie.Need-returns
 returns c = let a = c .before .args in sym (line-count (a .net .now))
 
 pub lines-spec : {M : Type 1} → statement M
-lines-spec = tie.close (tie.spec element-copy-out-result returns)
+lines-spec = tie.close (tie.spec (search needs) returns)

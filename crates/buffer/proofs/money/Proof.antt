@@ -5,12 +5,9 @@ use borrow.Author.Needs.{needs}
 use Rattle.buffer.proofs.money.Statement.{statement}
 use Rattle.buffer.proofs.money.Tie as tie
 
-element-copy-out-result : tie.Need-element-copy-out-result
-element-copy-out-result c = search needs
-
 returns : tie.Need-returns
 unfolding networkIn headOf
 returns c = refl
 
 pub money-spec : {M : Type 1} → statement M
-money-spec = tie.close (tie.spec element-copy-out-result returns)
+money-spec = tie.close (tie.spec (search needs) returns)

@@ -5,12 +5,9 @@ use borrow.Author.Needs.{needs}
 use Rattle.buffer.proofs.series.Statement.{statement}
 use Rattle.buffer.proofs.series.Tie as tie
 
-element-copy-out-result : tie.Need-element-copy-out-result
-element-copy-out-result c = search needs
-
 returns : tie.Need-returns
 unfolding networkIn headOf
 returns c = refl
 
 pub series-spec : {M : Type 1} → statement M
-series-spec = tie.close (tie.spec element-copy-out-result returns)
+series-spec = tie.close (tie.spec (search needs) returns)

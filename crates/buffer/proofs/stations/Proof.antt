@@ -4,11 +4,8 @@ use borrow.Author.Needs.{needs}
 use Rattle.buffer.proofs.stations.Statement.{statement}
 use Rattle.buffer.proofs.stations.Tie as tie
 
-element-copy-out-result : tie.Need-element-copy-out-result
-element-copy-out-result c = search needs
-
 returns : tie.Need-returns
 returns c = let a = c .before .args in sym (station-count (a .net .now))
 
 pub stations-spec : {M : Type 1} → statement M
-stations-spec = tie.close (tie.spec element-copy-out-result returns)
+stations-spec = tie.close (tie.spec (search needs) returns)

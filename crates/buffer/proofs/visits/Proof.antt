@@ -5,12 +5,9 @@ use borrow.Author.Needs.{needs}
 use Rattle.buffer.proofs.visits.Statement.{statement}
 use Rattle.buffer.proofs.visits.Tie as tie
 
-element-copy-out-result : tie.Need-element-copy-out-result
-element-copy-out-result c = search needs
-
 returns : tie.Need-returns
 unfolding networkIn headOf
 returns c = refl
 
 pub visits-spec : {M : Type 1} → statement M
-visits-spec = tie.close (tie.spec element-copy-out-result returns)
+visits-spec = tie.close (tie.spec (search needs) returns)

@@ -1,4 +1,4 @@
-use mathlib.Core.Path.{_≡_, refl, sym, _∙_}
+use mathlib.Core.Path.{_≡_, refl, sym, subst, _∙_}
 use borrow.Author.Tests.{not-true, not-false}
 use Prim.Native.Nat.{_-_, _≤_}
 use native.Mathlib.Omega.{arith}
@@ -9,12 +9,13 @@ use Rattle.model.specs.Network.{placeOf}
 use Rattle.buffer.specs.Buffer.{networkIn}
 use Rattle.buffer.specs.Fits.{Fits}
 use Rattle.network_changes.specs.Changed.{withOneMore}
+use Rattle.network_changes.specs.Sizes.{more-fits}
 use Rattle.buffer.specs.Parts.{stations-counted, lines-counted}
 use Rattle.records.proofs.Steps.{says-next, says-stopped, next-forward}
 use Rattle.reader.specs.Says.{readSays}
 use Rattle.reader.specs.Places.{withPlacesOf}
 use Rattle.reader.proofs.Placed.{not-65th}
-use Rattle.reader.proofs.InBuffer.{readOn, at-start, others-left, fits-start, fits-more, kept, stopped, in-bounds, misplaced, next, ended}
+use Rattle.reader.proofs.InBuffer.{readOn, at-start, others-left, fits-start, kept, stopped, in-bounds, misplaced, next, ended}
 use borrow.Author.Needs.{needs}
 use Rattle.reader.proofs.read_places.Statement.{statement}
 use Rattle.reader.proofs.read_places.Tie as tie
@@ -115,7 +116,7 @@ loop-again c =
     let e : M ≡ withOneMore N (placeOf v) = c .add-place .ensures in (
       l .inv .0 ∙ kept N M (placeOf v) e .0,
       l .inv .1 ∙ kept N M (placeOf v) e .1,
-      fits-more N M (placeOf v) e (l .inv .2) (omega (arith, few, p .ensures)),
+      subst Fits (sym e) (more-fits N (l .inv .2) (placeOf v) (omega (arith, few, p .ensures))),
       (r .kept .1 .1 .1 .1 .1 .1 .0 ∙ l .inv .3),
       omega (arith, next-forward (a .file .now) (l .at) (r .result) (r .ensures .1) (t .given .0 .0) (t .given .1)),
       sym (next (a .file .now) N (l .before) (l .at) _ _ (p .result) (l .inv .0 ∙ stations-counted (l .net)) (l .inv .1 ∙ lines-counted (l .net)) (p .ensures) (omega arith) v (t .given .0 .0) (says-next (a .file .now) (r .result) v _ (r .ensures .0) (t .given .0 .0) (t .given .1)) well M e) ∙ l .inv .5,
