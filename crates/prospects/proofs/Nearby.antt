@@ -17,7 +17,7 @@ use Rattle.savings.specs.First.{this, first-mono}
 use Rattle.savings.specs.Tree.{rising-path}
 use Rattle.savings.specs.Breakers.{endAt, Valid}
 use Rattle.savings.specs.Totals.{breakersWith}
-use Rattle.theory.specs.Ends.{in-numbers, breaker-closed, closed-end}
+use Rattle.theory.specs.Ends.{breaker-closed, closed-end}
 use Rattle.theory.specs.Radial.{In, station-in}
 use Rattle.theory.specs.Forest.{end-first, tree}
 use Rattle.theory.specs.Best.{Accepted, place-closed}
@@ -27,6 +27,7 @@ use Rattle.sets.specs.Ways.{has, Way}
 use Rattle.sets.specs.Onward.{onward, way, near-line}
 use Rattle.sets.specs.Sets.{nearAt}
 use Rattle.sets.specs.Apart.{place-free}
+use Rattle.starts.proofs.OnEnds.{place-in}
 use Rattle.prospects.specs.Chosen.{Before}
 
 -- the first that passes a test, where one does
@@ -45,12 +46,8 @@ first-end [] = refl
 first-end (e ∷ es) = refl
 
 module _ (N : Network) (a : Accepted N) where
-  pub place-in : (p : ℕ) → 1 ≤ p → p ≤ length (N .places) → List·Memᴰ p (placeNumbers N)
-  unfolding placeNumbers
-  place-in p l h = in-numbers p 1 (length (N .places)) l (omega arith)
-
   pub end-closed : (p : ℕ) → 1 ≤ p → p ≤ length (N .places) → isOpen N (endAt N p) ≡ false
-  end-closed p l h = place-closed N a p (place-in p l h)
+  end-closed p l h = place-closed N a p (place-in N p l h)
 
   -- the places before one: they are on closed ends, and none of them is on its end
   pub before-valid : (q : ℕ) → q ≤ length (N .places) + 1 → (S : List ℕ) → Before q S → Valid N S
@@ -58,11 +55,11 @@ module _ (N : Network) (a : Accepted N) where
   before-valid q h (p ∷ S) b = (end-closed p (b .0 .0) (omega (arith, b .0 .1)), before-valid q h S (b .1))
 
   pub before-free : (q : ℕ) → 1 ≤ q → q ≤ length (N .places) → (S : List ℕ) → Before q S → breakersWith N S (endAt N q) ≡ false
-  before-free q l h S b = place-free N a q (place-in q l h) S (within S b) (fresh S b)
+  before-free q l h S b = place-free N a q (place-in N q l h) S (within S b) (fresh S b)
     where
       within : (S : List ℕ) → Before q S → (p : ℕ) → List·Memᴰ p S → List·Memᴰ p (placeNumbers N)
       within [] b p m = absurd (List·Memᴰ·not-nil m)
-      within (s ∷ S) b p m = ⊎-elim (λ e. subst (λ k. List·Memᴰ k (placeNumbers N)) (sym e) (place-in s (b .0 .0) (omega (arith, b .0 .1)))) (λ k. within S (b .1) p k) (List·Memᴰ·cases-cons m)
+      within (s ∷ S) b p m = ⊎-elim (λ e. subst (λ k. List·Memᴰ k (placeNumbers N)) (sym e) (place-in N s (b .0 .0) (omega (arith, b .0 .1)))) (λ k. within S (b .1) p k) (List·Memᴰ·cases-cons m)
 
       fresh : (S : List ℕ) → Before q S → Fresh q S
       fresh [] b = tt

@@ -20,8 +20,9 @@ use Rattle.sets.specs.Onward.{onward, way-onward}
 use Rattle.sets.specs.Sets.{nearAt, weightAt, worstAt, underAt, set-near, set-weight, set-worst}
 use Rattle.sets.specs.Apart.{ends-apart}
 use Rattle.relations.specs.Related.{relation}
+use Rattle.starts.proofs.OnEnds.{place-in}
 use Rattle.prospects.specs.Chosen.{Before}
-use Rattle.prospects.proofs.Nearby.{place-in, end-closed, before-valid, before-free, onward-once, near-closed}
+use Rattle.prospects.proofs.Nearby.{end-closed, before-valid, before-free, onward-once, near-closed}
 
 pub before-later : (q r : ℕ) (S : List ℕ) → q ≤ r → Before q S → Before r S
 before-later q r [] h b = tt
@@ -128,7 +129,7 @@ module _ (N : Network) (a : Accepted N) (U : List ℕ) (last : ℕ) (low : 1 ≤
 
   worst-step : (s t : Bool) → has e (onward N d) ≡ s → has d (onward N e) ≡ t → worstAt N (U ++ (last ∷ [])) d ≡ worst-by s t
   worst-step s t h k =
-      set-worst N (a .read) (a .rules) U valid last e-closed e-free d d-closed (λ q. omega (arith, ends-apart N a p last (place-in N a p (omega arith) high) (place-in N a last low (omega arith)) q))
+      set-worst N (a .read) (a .rules) U valid last e-closed e-free d d-closed (λ q. omega (arith, ends-apart N a p last (place-in N p (omega arith) high) (place-in N last low (omega arith)) q))
       ∙ (λ i. worst-by (h i) (k i))
 
   pub worst-behind : relation N last p ≡ 1 → worstAt N (U ++ (last ∷ [])) d ≡ worstAt N U d + 1

@@ -9,13 +9,12 @@ use lib.ListN.{length, length-append, take}
 use lib.Seq.{length-take-le}
 use borrow.Author.Tests.{le-leb}
 use Rattle.model.specs.Lists.{sum}
-use Rattle.model.specs.Network.{Network, noPlace}
+use Rattle.model.specs.Network.{Network}
 use Rattle.model.specs.Rules.{seriesBroken}
 use Rattle.model.specs.Sets.{placeAt, withBreakers, allowed}
 use Rattle.savings.specs.Allowed.{sum-append}
 use Rattle.savings.specs.Breakers.{endAt}
-use Rattle.theory.specs.Reading.{Read, PlaceFits}
-use Rattle.theory.specs.Radial.{numbered-in}
+use Rattle.theory.specs.Reading.{Read}
 use Rattle.sets.specs.Sets.{worstAt, set-series}
 use Rattle.prospects.specs.Chosen.{Later}
 use Rattle.search.specs.Walking.{Trying}
@@ -23,10 +22,6 @@ use Rattle.search.specs.declared.Current.{Current}
 use Rattle.prospects.proofs.Nearby.{end-closed}
 use Rattle.prospects.proofs.Levels.{chosen-valid, later-of}
 use Rattle.prospects.proofs.Falling.{free}
-
-pub place-fits : (N : Network) → Read N → (p : ℕ) → 1 ≤ p → p ≤ length (N .places) → PlaceFits (length (N .lines)) (placeAt N p)
-unfolding placeAt
-place-fits N d p l h = numbered-in (PlaceFits (length (N .lines))) (N .places) noPlace (d .places) p l h
 
 one-more : (f : ℕ → ℕ) (S : List ℕ) (q : ℕ) → sum (map f (S ++ (q ∷ []))) ≡ sum (map f S) + f q
 unfolding sum

@@ -1,6 +1,6 @@
 use native.Mathlib.Omega.{arith}
 use Rattle.buffer.specs.Buffer.{networkIn}
-use Rattle.search.proofs.Trying.{place-fits}
+use Rattle.paths.proofs.Marking.{place-fits}
 use borrow.Author.Needs.{needs}
 use Rattle.search.proofs.hours_with.Statement.{statement}
 use Rattle.search.proofs.hours_with.Tie as tie
