@@ -17,7 +17,7 @@ use search::Progress;
 pub fn is_line(net: &buffer::Net, line: u64) -> bool
     ensures { λ r. ⌜ (r ≡ true → (1 ≤ line) × (line ≤ length (networkIn (now (net .entry)) .lines))) × (r ≡ false → (line < 1) ⊎ (length (networkIn (now (net .entry)) .lines) < line)) ⌝ }
 {
-    1 <= line && line <= buffer::lines(net) as u64
+    1 <= line && line <= buffer::line_count(net) as u64
 }
 
 // Writes the first `count` numbers of a list at the start of what is lent.

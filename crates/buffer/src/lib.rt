@@ -33,21 +33,21 @@ pub const PLACE_WIDTH: usize = 4;
 pub type Net = [u64; SIZE];
 
 // How many stations there are.
-pub fn stations(net: &Net) -> usize
+pub fn station_count(net: &Net) -> usize
     ensures { λ r. ⌜ r ≡ length (networkIn (now (net .entry)) .stations) ⌝ }
 {
     net[0] as usize
 }
 
 // How many lines there are.
-pub fn lines(net: &Net) -> usize
+pub fn line_count(net: &Net) -> usize
     ensures { λ r. ⌜ r ≡ length (networkIn (now (net .entry)) .lines) ⌝ }
 {
     net[1] as usize
 }
 
 // How many places there are.
-pub fn places(net: &Net) -> usize
+pub fn place_count(net: &Net) -> usize
     ensures { λ r. ⌜ r ≡ length (networkIn (now (net .entry)) .places) ⌝ }
 {
     net[8] as usize

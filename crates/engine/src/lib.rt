@@ -23,18 +23,18 @@ pub fn check(file: &[u8]) -> CheckAnswer
     ensures { λ r. ⌜ checkSays r ≡ checked (now (file .entry)) ⌝ }
 {
     let mut net = loading::net_space();
-    let mut heads = loading::stations_space();
+    let mut chains = loading::stations_space();
     let mut nexts = loading::nexts_space();
-    let mut near = loading::lines_space();
-    let mut feed = loading::lines_space();
+    let mut sides = loading::lines_space();
+    let mut feeders = loading::lines_space();
     let mut order = loading::lines_space();
     loading::load(
         file,
         &mut net,
-        &mut heads,
+        &mut chains,
         &mut nexts,
-        &mut near,
-        &mut feed,
+        &mut sides,
+        &mut feeders,
         &mut order,
     )
 }
@@ -82,23 +82,31 @@ fn load_search(file: &[u8], best: &mut [u64; 16]) -> SearchAnswer
     ensures { λ r. ⌜ (foundBy r (now (best .exit)) ≡ fileFound (now (file .entry))) × AtMost16 r × (length (now (best .exit)) ≡ 16) ⌝ }
 {
     let mut net = loading::net_space();
-    let mut heads = loading::stations_space();
+    let mut chains = loading::stations_space();
     let mut nexts = loading::nexts_space();
-    let mut near = loading::lines_space();
-    let mut feed = loading::lines_space();
+    let mut sides = loading::lines_space();
+    let mut feeders = loading::lines_space();
     let mut order = loading::lines_space();
     match loading::load(
         file,
         &mut net,
-        &mut heads,
+        &mut chains,
         &mut nexts,
-        &mut near,
-        &mut feed,
+        &mut sides,
+        &mut feeders,
         &mut order,
     ) {
         CheckAnswer::Refused { number, record } => SearchAnswer::Refused { number, record },
         CheckAnswer::Accepted => {
-            let found = planning::search_network(&net, &heads, &nexts, &near, &feed, &order, best);
+            let found = planning::search_network(
+                &net,
+                &chains,
+                &nexts,
+                &sides,
+                &feeders,
+                &order,
+                best,
+            );
             answers::found_answer(found)
         }
     }
@@ -133,23 +141,23 @@ pub fn search(file: &[u8], members: &mut [u64]) -> SearchAnswer
 // Writes the report of an accepted network at the start of a buffer; answers its length.
 fn report_network(
     net: &buffer::Net,
-    heads: &[u64; 512],
+    chains: &[u64; 512],
     nexts: &[u64; 1536],
-    near: &[u64; 768],
-    feed: &[u64; 768],
+    sides: &[u64; 768],
+    feeders: &[u64; 768],
     order: &[u64; 768],
     text: &mut [u8],
 ) -> usize
-    requires { ⌜ Accepted (networkIn (now net)) × Prepared (networkIn (now net)) (now heads) (now nexts) (now near) (now feed) (now order) × (32768 ≤ length (now text)) ⌝ }
+    requires { ⌜ Accepted (networkIn (now net)) × Prepared (networkIn (now net)) (now chains) (now nexts) (now sides) (now feeders) (now order) × (32768 ≤ length (now text)) ⌝ }
     ensures { λ r. ⌜ (r ≡ length (reportText (networkIn (now (net .entry))))) × (now (text .exit) ≡ reportText (networkIn (now (net .entry))) ++ drop (length (reportText (networkIn (now (net .entry))))) (now (text .entry))) ⌝ }
 {
     let mut sums = loading::lines_space();
-    outage::customers_behind(net, heads, nexts, &mut sums);
+    outage::customers_behind(net, chains, nexts, &mut sums);
     let mut impacts = loading::lines_space();
-    loading::line_impacts(net, near, feed, order, &sums, &mut impacts);
+    loading::line_impacts(net, sides, feeders, order, &sums, &mut impacts);
     let total = outage::total_of(net, &impacts);
     let mut best = [0u64; 16];
-    let found = planning::best_set(net, near, feed, order, &sums, total, &mut best);
+    let found = planning::best_set(net, sides, feeders, order, &sums, total, &mut best);
     report::write_report(
         net,
         &impacts,
@@ -175,23 +183,23 @@ pub fn report(file: &[u8], text: &mut [u8]) -> ReportAnswer
         };
     }
     let mut net = loading::net_space();
-    let mut heads = loading::stations_space();
+    let mut chains = loading::stations_space();
     let mut nexts = loading::nexts_space();
-    let mut near = loading::lines_space();
-    let mut feed = loading::lines_space();
+    let mut sides = loading::lines_space();
+    let mut feeders = loading::lines_space();
     let mut order = loading::lines_space();
     match loading::load(
         file,
         &mut net,
-        &mut heads,
+        &mut chains,
         &mut nexts,
-        &mut near,
-        &mut feed,
+        &mut sides,
+        &mut feeders,
         &mut order,
     ) {
         CheckAnswer::Refused { number, record } => ReportAnswer::Refused { number, record },
         CheckAnswer::Accepted => {
-            let length = report_network(&net, &heads, &nexts, &near, &feed, &order, text);
+            let length = report_network(&net, &chains, &nexts, &sides, &feeders, &order, text);
             ReportAnswer::Written(length)
         }
     }
@@ -200,20 +208,20 @@ pub fn report(file: &[u8], text: &mut [u8]) -> ReportAnswer
 // Writes the segment table of an accepted network at the start of a buffer; answers how many entries it has.
 fn table_network(
     net: &buffer::Net,
-    heads: &[u64; 512],
+    chains: &[u64; 512],
     nexts: &[u64; 1536],
-    near: &[u64; 768],
-    feed: &[u64; 768],
+    sides: &[u64; 768],
+    feeders: &[u64; 768],
     order: &[u64; 768],
     table: &mut [u64],
 ) -> usize
-    requires { ⌜ Accepted (networkIn (now net)) × Prepared (networkIn (now net)) (now heads) (now nexts) (now near) (now feed) (now order) × (7680 ≤ length (now table)) ⌝ }
+    requires { ⌜ Accepted (networkIn (now net)) × Prepared (networkIn (now net)) (now chains) (now nexts) (now sides) (now feeders) (now order) × (7680 ≤ length (now table)) ⌝ }
     ensures { λ r. ⌜ (r ≡ length (breakerEnds (networkIn (now (net .entry))))) × (now (table .exit) ≡ segmentTable (networkIn (now (net .entry))) ++ drop (length (segmentTable (networkIn (now (net .entry))))) (now (table .entry))) ⌝ }
 {
     let mut sums = loading::lines_space();
-    outage::customers_behind(net, heads, nexts, &mut sums);
+    outage::customers_behind(net, chains, nexts, &mut sums);
     let mut trips = loading::lines_space();
-    outage::trips(net, near, feed, order, &mut trips);
+    outage::trips(net, sides, feeders, order, &mut trips);
     segments::write_table(net, &trips, &sums, table)
 }
 
@@ -230,23 +238,23 @@ pub fn segments(file: &[u8], table: &mut [u64]) -> SegmentsAnswer
         };
     }
     let mut net = loading::net_space();
-    let mut heads = loading::stations_space();
+    let mut chains = loading::stations_space();
     let mut nexts = loading::nexts_space();
-    let mut near = loading::lines_space();
-    let mut feed = loading::lines_space();
+    let mut sides = loading::lines_space();
+    let mut feeders = loading::lines_space();
     let mut order = loading::lines_space();
     match loading::load(
         file,
         &mut net,
-        &mut heads,
+        &mut chains,
         &mut nexts,
-        &mut near,
-        &mut feed,
+        &mut sides,
+        &mut feeders,
         &mut order,
     ) {
         CheckAnswer::Refused { number, record } => SegmentsAnswer::Refused { number, record },
         CheckAnswer::Accepted => {
-            let entries = table_network(&net, &heads, &nexts, &near, &feed, &order, table);
+            let entries = table_network(&net, &chains, &nexts, &sides, &feeders, &order, table);
             SegmentsAnswer::Entries(entries)
         }
     }

@@ -38,6 +38,6 @@ unfolding before networkIn
 loaded answer b = before answer (given (networkIn b))
 
 -- what is prepared of an accepted network
-pub record Prepared (N : Network) (heads nexts near feed order : List ℕ) : Type 0 where
-  pub linked : Linked N heads nexts
-  pub outwards : Outwards N near feed order
+pub record Prepared (N : Network) (chains nexts near feeders order : List ℕ) : Type 0 where
+  pub linked : Linked N chains nexts
+  pub outwards : Outwards N near feeders order

@@ -19,7 +19,7 @@ fn line_record(net: &buffer::Net, line: u64) -> u64
     requires { ⌜ Read (networkIn (now net)) × (line ≤ 769) ⌝ }
     ensures { λ r. ⌜ r ≡ lineRecord (networkIn (now (net .entry))) line ⌝ }
 {
-    1 + buffer::stations(net) as u64 + line
+    1 + buffer::station_count(net) as u64 + line
 }
 
 // The record of a station: behind the head.
@@ -82,15 +82,15 @@ pub fn stations_space() -> [u64; 512] {
 // outwards are left in the buffers.
 fn rules(
     net: &buffer::Net,
-    heads: &mut [u64; 512],
+    chains: &mut [u64; 512],
     nexts: &mut [u64; 1536],
-    near: &mut [u64; 768],
-    feed: &mut [u64; 768],
+    sides: &mut [u64; 768],
+    feeders: &mut [u64; 768],
     order: &mut [u64; 768],
 ) -> CheckAnswer
     requires { ⌜ Read (networkIn (now net)) ⌝ }
     ensures { λ r. ⌜ loaded r (now (net .entry)) ≡ radial (networkIn (now (net .entry))) ⌝ }
-    ensures { λ r. ⌜ (r ≡ CheckAnswer.Accepted → Prepared (networkIn (now (net .entry))) (now (heads .exit)) (now (nexts .exit)) (now (near .exit)) (now (feed .exit)) (now (order .exit))) ⌝ }
+    ensures { λ r. ⌜ (r ≡ CheckAnswer.Accepted → Prepared (networkIn (now (net .entry))) (now (chains .exit)) (now (nexts .exit)) (now (sides .exit)) (now (feeders .exit)) (now (order .exit))) ⌝ }
 {
     match forest_rules(net) {
         CheckAnswer::Refused { number, record } => {
@@ -98,9 +98,9 @@ fn rules(
         }
         CheckAnswer::Accepted => {}
     }
-    tree::link_ends(net, heads, nexts);
-    tree::outwards(net, heads, nexts, near, feed, order);
-    if tree::over_series(net, near, feed, order) {
+    tree::link_ends(net, chains, nexts);
+    tree::outwards(net, chains, nexts, sides, feeders, order);
+    if tree::over_series(net, sides, feeders, order) {
         return CheckAnswer::Refused {
             number: 9,
             record: 0,
@@ -113,54 +113,54 @@ fn rules(
 pub fn load(
     file: &[u8],
     net: &mut buffer::Net,
-    heads: &mut [u64; 512],
+    chains: &mut [u64; 512],
     nexts: &mut [u64; 1536],
-    near: &mut [u64; 768],
-    feed: &mut [u64; 768],
+    sides: &mut [u64; 768],
+    feeders: &mut [u64; 768],
     order: &mut [u64; 768],
 ) -> CheckAnswer
     ensures { λ r. ⌜ loaded r (now (net .exit)) ≡ accepted (now (file .entry)) ⌝ }
-    ensures { λ r. ⌜ (r ≡ CheckAnswer.Accepted → Prepared (networkIn (now (net .exit))) (now (heads .exit)) (now (nexts .exit)) (now (near .exit)) (now (feed .exit)) (now (order .exit))) ⌝ }
+    ensures { λ r. ⌜ (r ≡ CheckAnswer.Accepted → Prepared (networkIn (now (net .exit))) (now (chains .exit)) (now (nexts .exit)) (now (sides .exit)) (now (feeders .exit)) (now (order .exit))) ⌝ }
 {
     match reader::read(file, net) {
         ReadAnswer::Refused { number, record } => CheckAnswer::Refused { number, record },
-        ReadAnswer::Read => rules(net, heads, nexts, near, feed, order),
+        ReadAnswer::Read => rules(net, chains, nexts, sides, feeders, order),
     }
 }
 
 // The impact of a fault on each line of an accepted network, from the customers behind each line.
 pub fn line_impacts(
     net: &buffer::Net,
-    near: &[u64; 768],
-    feed: &[u64; 768],
+    sides: &[u64; 768],
+    feeders: &[u64; 768],
     order: &[u64; 768],
     sums: &[u64; 768],
     out: &mut [u64; 768],
 )
-    requires { ⌜ Accepted (networkIn (now net)) × Outwards (networkIn (now net)) (now near) (now feed) (now order) × HoldsCustomers (networkIn (now net)) (now sums) ⌝ }
+    requires { ⌜ Accepted (networkIn (now net)) × Outwards (networkIn (now net)) (now sides) (now feeders) (now order) × HoldsCustomers (networkIn (now net)) (now sums) ⌝ }
     ensures { λ r. ⌜ HoldsImpacts (networkIn (now (net .entry))) (now (out .exit)) ⌝ }
 {
     let mut trips = lines_space();
-    outage::trips(net, near, feed, order, &mut trips);
+    outage::trips(net, sides, feeders, order, &mut trips);
     outage::impacts(net, &trips, sums, out);
 }
 
 // The impact of a fault on each line of an accepted network.
 fn impacts(
     net: &buffer::Net,
-    heads: &[u64; 512],
+    chains: &[u64; 512],
     nexts: &[u64; 1536],
-    near: &[u64; 768],
-    feed: &[u64; 768],
+    sides: &[u64; 768],
+    feeders: &[u64; 768],
     order: &[u64; 768],
     out: &mut [u64; 768],
 )
-    requires { ⌜ Accepted (networkIn (now net)) × Prepared (networkIn (now net)) (now heads) (now nexts) (now near) (now feed) (now order) ⌝ }
+    requires { ⌜ Accepted (networkIn (now net)) × Prepared (networkIn (now net)) (now chains) (now nexts) (now sides) (now feeders) (now order) ⌝ }
     ensures { λ r. ⌜ HoldsImpacts (networkIn (now (net .entry))) (now (out .exit)) ⌝ }
 {
     let mut sums = lines_space();
-    outage::customers_behind(net, heads, nexts, &mut sums);
-    line_impacts(net, near, feed, order, &sums, out);
+    outage::customers_behind(net, chains, nexts, &mut sums);
+    line_impacts(net, sides, feeders, order, &sums, out);
 }
 
 // Reads and checks a file. Where it is accepted, its network and the impact of a fault on each line are left in the buffers.
@@ -168,23 +168,23 @@ pub fn load_impacts(file: &[u8], net: &mut buffer::Net, out: &mut [u64; 768]) ->
     ensures { λ r. ⌜ loaded r (now (net .exit)) ≡ accepted (now (file .entry)) ⌝ }
     ensures { λ r. ⌜ (r ≡ CheckAnswer.Accepted → HoldsImpacts (networkIn (now (net .exit))) (now (out .exit))) ⌝ }
 {
-    let mut heads = stations_space();
+    let mut chains = stations_space();
     let mut nexts = nexts_space();
-    let mut near = lines_space();
-    let mut feed = lines_space();
+    let mut sides = lines_space();
+    let mut feeders = lines_space();
     let mut order = lines_space();
     match load(
         file,
         net,
-        &mut heads,
+        &mut chains,
         &mut nexts,
-        &mut near,
-        &mut feed,
+        &mut sides,
+        &mut feeders,
         &mut order,
     ) {
         CheckAnswer::Refused { number, record } => CheckAnswer::Refused { number, record },
         CheckAnswer::Accepted => {
-            impacts(net, &heads, &nexts, &near, &feed, &order, out);
+            impacts(net, &chains, &nexts, &sides, &feeders, &order, out);
             CheckAnswer::Accepted
         }
     }

@@ -71,7 +71,7 @@ pub fn add_place(net: &mut buffer::Net, line: usize, side: usize, cost: u64, hou
     requires { ⌜ Fits (networkIn (now net)) × (length (networkIn (now net) .places) < 64) ⌝ }
     ensures { λ _. ⌜ networkIn (now (net .exit)) ≡ withOneMore (networkIn (now (net .entry))) (placeOn line side cost hours) ⌝ }
 {
-    let place = buffer::places(net) + 1;
+    let place = buffer::place_count(net) + 1;
     put(net, buffer::PLACE_COUNT_AT, place as u64);
     set_place(net, place, line, side, cost, hours);
 }

@@ -37,7 +37,7 @@ module _ (N : Network) (e : End) where
   closed-sum zero h q = absurd (omega arith)
   closed-sum (suc k) h q = ap (λ j. stationSum N j (far e) (stationAt N (far e))) {x = suc k - 1} {y = k} (omega arith) ∙ rw (lineSum, ne-eqb (state N (far e)) 2 q)
 
-module _ (b heads nexts : List ℕ) (y : Ready (networkIn b) heads nexts) (c k : ℕ) (t : AtLine (networkIn b) (codeEnd c) k) where
+module _ (b chains nexts : List ℕ) (y : Ready (networkIn b) chains nexts) (c k : ℕ) (t : AtLine (networkIn b) (codeEnd c) k) where
   pub line-code : (1 ≤ (c + 1) / 2) × ((c + 1) / 2 ≤ length (networkIn b .lines)) × (length (networkIn b .lines) ≤ 768)
   line-code = let x = closed-end (networkIn b) (codeEnd c) (t .near .closed) in (x .0, x .1, read-fits (networkIn b) (y .read) .lines)
 

@@ -121,9 +121,9 @@ pub record Part (N : Network) (nexts : List ℕ) (came s k end total : ℕ) (old
   pub filled : Filled N (λ d. Leaves N (codeEnd came) s d × (List·Memᴰ d left → ⊥)) old new
 
 -- none is summed yet
-pub part-start : (N : Network) (d : Read N) (r : Rules N) (heads nexts : List ℕ) → Linked N heads nexts → (came s k : ℕ) → AtStation N (codeEnd came) s k → (old : List ℕ)
-    → Part N nexts came s k (getD heads (s - 1) 0) (customersOf N s) old old
-part-start N d r heads nexts h came s k a old = record {
+pub part-start : (N : Network) (d : Read N) (r : Rules N) (chains nexts : List ℕ) → Linked N chains nexts → (came s k : ℕ) → AtStation N (codeEnd came) s k → (old : List ℕ)
+    → Part N nexts came s k (getD chains (s - 1) 0) (customersOf N s) old old
+part-start N d r chains nexts h came s k a old = record {
   left = endsAt N s;
   chain = h .lists s (a .low) (a .high);
   whole = left-all N k (codeEnd came) s (station-levels N d r (codeEnd came) s k a);

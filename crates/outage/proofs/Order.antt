@@ -18,9 +18,9 @@ use Rattle.outage.specs.Feeding.{Feeds, Known}
 abbrev pub Done : List ℕ → List ℕ → List ℕ → ℕ → Type 0
 Done b order out i = (j : ℕ) → j < i → getD out (getD order j 0 - 1) 0 ≡ endCode (tripped (networkIn b) (getD order j 0))
 
-module _ (b near feed order : List ℕ) (f : Fits (networkIn b)) (s : Feeds (networkIn b)) (o : Outwards (networkIn b) near feed order) where
+module _ (b near feeders order : List ℕ) (f : Fits (networkIn b)) (s : Feeds (networkIn b)) (o : Outwards (networkIn b) near feeders order) where
   -- what the next line's breaker is known from
-  pub next-known : (out : List ℕ) (i : ℕ) → i < length (networkIn b .lines) → Done b order out i → Known b near feed out (getD order i 0)
+  pub next-known : (out : List ℕ) (i : ℕ) → i < length (networkIn b .lines) → Done b order out i → Known b near feeders out (getD order i 0)
   next-known out i q d = record {
     there = record { fits = f; low = o .inside i q .0; high = o .inside i q .1 };
     feeds = s;

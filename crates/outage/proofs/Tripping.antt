@@ -51,7 +51,7 @@ module _ (N : Network) (l : ℕ) where
   trips-above (byLine i j p) n m = first-no N p n ∙ first-no N {es = pathToHV N (line (feeder N l))} {e = far (nearEnd N (feeder N l))} refl m
 
 -- the same, as the buffers have it
-module _ (b near feed trips : List ℕ) (l : ℕ) (k : Known b near feed trips l) where
+module _ (b near feeders trips : List ℕ) (l : ℕ) (k : Known b near feeders trips l) where
   fed : Fed (networkIn b) l
   fed = k .feeds .fed l (k .there .low) (k .there .high)
 
@@ -79,21 +79,21 @@ module _ (b near feed trips : List ℕ) (l : ℕ) (k : Known b near feed trips l
     not-near : isBreaker (networkIn b) (nearEnd (networkIn b) l) ≡ false
     not-near = sym (near-is l (k .there .low) (k .there .high)) ∙ n
 
-    pub feeder-there : (1 ≤ getD feed (l - 1) 0) × (getD feed (l - 1) 0 ≤ length (networkIn b .lines))
+    pub feeder-there : (1 ≤ getD feeders (l - 1) 0) × (getD feeders (l - 1) 0 ≤ length (networkIn b .lines))
     feeder-there = subst (λ m. (1 ≤ m) × (m ≤ length (networkIn b .lines))) (sym (k .fed)) (by-line (networkIn b) l fed not-near)
 
-    pub feeder-trip : (r : ℕ) → r ≡ 2 * getD feed (l - 1) 0 + 1 - getD near (getD feed (l - 1) 0 - 1) 0
-        → isBreaker (networkIn b) (endIn (getD feed (l - 1) 0) (3 - getD near (getD feed (l - 1) 0 - 1) 0)) ≡ true → r ≡ endCode (tripped (networkIn b) l)
+    pub feeder-trip : (r : ℕ) → r ≡ 2 * getD feeders (l - 1) 0 + 1 - getD near (getD feeders (l - 1) 0 - 1) 0
+        → isBreaker (networkIn b) (endIn (getD feeders (l - 1) 0) (3 - getD near (getD feeders (l - 1) 0 - 1) 0)) ≡ true → r ≡ endCode (tripped (networkIn b) l)
     feeder-trip r e h =
-        let m = getD feed (l - 1) 0 in
+        let m = getD feeders (l - 1) 0 in
         let u = k .feeds .ends m (feeder-there .0) (feeder-there .1) in
         let w : r ≡ endCode (far (nearEnd (networkIn b) m)) = omega (arith, e, u, k .nears m (feeder-there .0) (feeder-there .1)) in
         w ∙ ap (λ x. endCode (far (nearEnd (networkIn b) x))) (k .fed)
         ∙ ap (λ d. endCode d) (sym (trips-far (networkIn b) l fed not-near (ap (λ x. isBreaker (networkIn b) (far (nearEnd (networkIn b) x))) (sym (k .fed)) ∙ sym (far-is m (feeder-there .0) (feeder-there .1)) ∙ h)))
 
-    pub above-trip : isBreaker (networkIn b) (endIn (getD feed (l - 1) 0) (3 - getD near (getD feed (l - 1) 0 - 1) 0)) ≡ false → getD trips (getD feed (l - 1) 0 - 1) 0 ≡ endCode (tripped (networkIn b) l)
+    pub above-trip : isBreaker (networkIn b) (endIn (getD feeders (l - 1) 0) (3 - getD near (getD feeders (l - 1) 0 - 1) 0)) ≡ false → getD trips (getD feeders (l - 1) 0 - 1) 0 ≡ endCode (tripped (networkIn b) l)
     above-trip h =
-        let m = getD feed (l - 1) 0 in
+        let m = getD feeders (l - 1) 0 in
         ap (λ x. getD trips (x - 1) 0) (k .fed)
         ∙ k .above (omega (arith, feeder-there, k .fed))
         ∙ ap (λ d. endCode d) (sym (trips-above (networkIn b) l fed not-near (ap (λ x. isBreaker (networkIn b) (far (nearEnd (networkIn b) x))) (sym (k .fed)) ∙ sym (far-is m (feeder-there .0) (feeder-there .1)) ∙ h)))

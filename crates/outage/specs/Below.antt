@@ -15,10 +15,10 @@ use Rattle.tree.specs.Outwards.{nearEnd}
 use Rattle.outage.specs.Feeding.{Near}
 
 -- a network that is read and keeps the rules, with the lists of its ends
-pub record Ready (N : Network) (heads nexts : List ℕ) : Type 0 where
+pub record Ready (N : Network) (chains nexts : List ℕ) : Type 0 where
   pub read : Read N
   pub rules : Rules N
-  pub linked : Linked N heads nexts
+  pub linked : Linked N chains nexts
 
 -- a closed end at a station, other than the end by which we came there
 pub record Leaves (N : Network) (came : End) (s : ℕ) (d : End) : Type 0 where

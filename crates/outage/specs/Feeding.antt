@@ -32,9 +32,9 @@ pub record Feeds (N : Network) : Type 0 where
 
 -- what the breaker that trips for a line is known from: the numbers of the near ends, the line that feeds it, and the code of the
 -- breaker that trips for that one
-pub record Known (b near feed trips : List ℕ) (l : ℕ) : Type 0 where
+pub record Known (b near feeders trips : List ℕ) (l : ℕ) : Type 0 where
   pub there : LineThere b l
   pub feeds : Feeds (networkIn b)
   pub nears : (k : ℕ) → 1 ≤ k → k ≤ length (networkIn b .lines) → getD near (k - 1) 0 ≡ nearEnd (networkIn b) k .side
-  pub fed : getD feed (l - 1) 0 ≡ feeder (networkIn b) l
+  pub fed : getD feeders (l - 1) 0 ≡ feeder (networkIn b) l
   pub above : 1 ≤ feeder (networkIn b) l → getD trips (feeder (networkIn b) l - 1) 0 ≡ endCode (tripped (networkIn b) (feeder (networkIn b) l))

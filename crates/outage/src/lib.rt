@@ -24,21 +24,21 @@ use amounts::Weight;
 // leaves it. The customers behind these lines, and behind the lines beyond them, are stored in `sums`.
 fn station_sum(
     net: &buffer::Net,
-    heads: &[u64; 512],
+    chains: &[u64; 512],
     nexts: &[u64; 1536],
     sums: &mut [u64],
     came: usize,
     station: usize,
     levels: usize,
 ) -> u64
-    requires { ⌜ Ready (networkIn (now net)) (now heads) (now nexts) × AtStation (networkIn (now net)) (codeEnd came) station levels × (length (now sums) ≡ 768) ⌝ }
+    requires { ⌜ Ready (networkIn (now net)) (now chains) (now nexts) × AtStation (networkIn (now net)) (codeEnd came) station levels × (length (now sums) ≡ 768) ⌝ }
     ensures { λ r. ⌜ (r ≡ stationSum (networkIn (now (net .entry))) levels (codeEnd came) station) × Filled (networkIn (now (net .entry))) (Leaves (networkIn (now (net .entry))) (codeEnd came) station) (now (sums .entry)) (now (sums .exit)) ⌝ }
 {
     let mut sum = buffer::customers(net, station);
-    let mut end = heads[station - 1] as usize;
+    let mut end = chains[station - 1] as usize;
     while end != 0 {
         if end != came {
-            sum = sum + line_sum(net, heads, nexts, sums, end, levels - 1);
+            sum = sum + line_sum(net, chains, nexts, sums, end, levels - 1);
         }
         end = nexts[end - 1] as usize;
     }
@@ -49,13 +49,13 @@ fn station_sum(
 // They are stored in `sums`, with those of the lines beyond.
 fn line_sum(
     net: &buffer::Net,
-    heads: &[u64; 512],
+    chains: &[u64; 512],
     nexts: &[u64; 1536],
     sums: &mut [u64],
     entered: usize,
     levels: usize,
 ) -> u64
-    requires { ⌜ Ready (networkIn (now net)) (now heads) (now nexts) × AtLine (networkIn (now net)) (codeEnd entered) levels × (length (now sums) ≡ 768) ⌝ }
+    requires { ⌜ Ready (networkIn (now net)) (now chains) (now nexts) × AtLine (networkIn (now net)) (codeEnd entered) levels × (length (now sums) ≡ 768) ⌝ }
     ensures { λ r. ⌜ (r ≡ lineSum (networkIn (now (net .entry))) levels (codeEnd entered)) × Filled (networkIn (now (net .entry))) (λ d. d ≡ codeEnd entered) (now (sums .entry)) (now (sums .exit)) ⌝ }
 {
     let line = (entered + 1) / 2;
@@ -66,7 +66,7 @@ fn line_sum(
         let station = buffer::end_station(net, line, side);
         sum = station_sum(
             net,
-            heads,
+            chains,
             nexts,
             sums,
             2 * line + side - 2,
@@ -79,14 +79,14 @@ fn line_sum(
 }
 
 // The customers behind each line, from the HV stations outwards.
-fn sums_outwards(net: &buffer::Net, heads: &[u64; 512], nexts: &[u64; 1536], sums: &mut [u64])
-    requires { ⌜ Ready (networkIn (now net)) (now heads) (now nexts) × (length (now sums) ≡ 768) ⌝ }
+fn sums_outwards(net: &buffer::Net, chains: &[u64; 512], nexts: &[u64; 1536], sums: &mut [u64])
+    requires { ⌜ Ready (networkIn (now net)) (now chains) (now nexts) × (length (now sums) ≡ 768) ⌝ }
     ensures { λ r. ⌜ HoldsCustomers (networkIn (now (net .entry))) (now (sums .exit)) ⌝ }
 {
-    let levels = 2 * buffer::lines(net) + 1;
-    for station in 1..buffer::stations(net) + 1 {
+    let levels = 2 * buffer::line_count(net) + 1;
+    for station in 1..buffer::station_count(net) + 1 {
         if buffer::is_hv(net, station) {
-            station_sum(net, heads, nexts, sums, 0, station, levels);
+            station_sum(net, chains, nexts, sums, 0, station, levels);
         }
     }
 }
@@ -94,65 +94,65 @@ fn sums_outwards(net: &buffer::Net, heads: &[u64; 512], nexts: &[u64; 1536], sum
 // The customers behind each line.
 pub fn customers_behind(
     net: &buffer::Net,
-    heads: &[u64; 512],
+    chains: &[u64; 512],
     nexts: &[u64; 1536],
     sums: &mut [u64; 768],
 )
-    requires { ⌜ Read (networkIn (now net)) × Rules (networkIn (now net)) × Linked (networkIn (now net)) (now heads) (now nexts) ⌝ }
+    requires { ⌜ Read (networkIn (now net)) × Rules (networkIn (now net)) × Linked (networkIn (now net)) (now chains) (now nexts) ⌝ }
     ensures { λ r. ⌜ HoldsCustomers (networkIn (now (net .entry))) (now (sums .exit)) ⌝ }
 {
-    sums_outwards(net, heads, nexts, sums);
+    sums_outwards(net, chains, nexts, sums);
 }
 
 // Whether the near end of a line is a breaker.
-fn near_breaker(net: &buffer::Net, near: &[u64; 768], line: usize) -> bool
-    requires { ⌜ EndThere (now net) line (getD (now near) (line - 1) 0) ⌝ }
-    ensures { λ r. ⌜ r ≡ isBreaker (networkIn (now (net .entry))) (endIn line (getD (now (near .entry)) (line - 1) 0)) ⌝ }
+fn near_breaker(net: &buffer::Net, sides: &[u64; 768], line: usize) -> bool
+    requires { ⌜ EndThere (now net) line (getD (now sides) (line - 1) 0) ⌝ }
+    ensures { λ r. ⌜ r ≡ isBreaker (networkIn (now (net .entry))) (endIn line (getD (now (sides .entry)) (line - 1) 0)) ⌝ }
 {
-    buffer::is_breaker(net, line, near[line - 1] as usize)
+    buffer::is_breaker(net, line, sides[line - 1] as usize)
 }
 
 // Whether the far end of a line is a breaker.
-fn far_breaker(net: &buffer::Net, near: &[u64; 768], line: usize) -> bool
-    requires { ⌜ EndThere (now net) line (getD (now near) (line - 1) 0) ⌝ }
-    ensures { λ r. ⌜ r ≡ isBreaker (networkIn (now (net .entry))) (endIn line (3 - getD (now (near .entry)) (line - 1) 0)) ⌝ }
+fn far_breaker(net: &buffer::Net, sides: &[u64; 768], line: usize) -> bool
+    requires { ⌜ EndThere (now net) line (getD (now sides) (line - 1) 0) ⌝ }
+    ensures { λ r. ⌜ r ≡ isBreaker (networkIn (now (net .entry))) (endIn line (3 - getD (now (sides .entry)) (line - 1) 0)) ⌝ }
 {
-    buffer::is_breaker(net, line, 3 - near[line - 1] as usize)
+    buffer::is_breaker(net, line, 3 - sides[line - 1] as usize)
 }
 
 // The code of the near end of a line.
-fn near_code(near: &[u64; 768], line: usize) -> u64
-    requires { ⌜ (1 ≤ line) × (line ≤ 768) × (getD (now near) (line - 1) 0 ≤ 2) ⌝ }
-    ensures { λ r. ⌜ r ≡ 2 * line + getD (now (near .entry)) (line - 1) 0 - 2 ⌝ }
+fn near_code(sides: &[u64; 768], line: usize) -> u64
+    requires { ⌜ (1 ≤ line) × (line ≤ 768) × (getD (now sides) (line - 1) 0 ≤ 2) ⌝ }
+    ensures { λ r. ⌜ r ≡ 2 * line + getD (now (sides .entry)) (line - 1) 0 - 2 ⌝ }
 {
-    2 * line as u64 + near[line - 1] - 2
+    2 * line as u64 + sides[line - 1] - 2
 }
 
 // The code of the far end of a line.
-fn far_code(near: &[u64; 768], line: usize) -> u64
-    requires { ⌜ (1 ≤ line) × (line ≤ 768) × (getD (now near) (line - 1) 0 ≤ 2) ⌝ }
-    ensures { λ r. ⌜ r ≡ 2 * line + 1 - getD (now (near .entry)) (line - 1) 0 ⌝ }
+fn far_code(sides: &[u64; 768], line: usize) -> u64
+    requires { ⌜ (1 ≤ line) × (line ≤ 768) × (getD (now sides) (line - 1) 0 ≤ 2) ⌝ }
+    ensures { λ r. ⌜ r ≡ 2 * line + 1 - getD (now (sides .entry)) (line - 1) 0 ⌝ }
 {
-    2 * line as u64 + 1 - near[line - 1]
+    2 * line as u64 + 1 - sides[line - 1]
 }
 
 // The code of the breaker that trips for a fault on a line, where `trips` has that of the line that feeds it.
 fn trip_of(
     net: &buffer::Net,
-    near: &[u64; 768],
-    feed: &[u64; 768],
+    sides: &[u64; 768],
+    feeders: &[u64; 768],
     trips: &[u64],
     line: usize,
 ) -> u64
-    requires { ⌜ Known (now net) (now near) (now feed) (now trips) line × (length (now trips) ≡ 768) ⌝ }
+    requires { ⌜ Known (now net) (now sides) (now feeders) (now trips) line × (length (now trips) ≡ 768) ⌝ }
     ensures { λ r. ⌜ r ≡ endCode (tripped (networkIn (now (net .entry))) line) ⌝ }
 {
-    if near_breaker(net, near, line) {
-        return near_code(near, line);
+    if near_breaker(net, sides, line) {
+        return near_code(sides, line);
     }
-    let feeder = feed[line - 1] as usize;
-    if far_breaker(net, near, feeder) {
-        return far_code(near, feeder);
+    let feeder = feeders[line - 1] as usize;
+    if far_breaker(net, sides, feeder) {
+        return far_code(sides, feeder);
     }
     trips[feeder - 1]
 }
@@ -160,32 +160,32 @@ fn trip_of(
 // The code of the breaker that trips for each line, from the HV stations outwards.
 fn trips_outwards(
     net: &buffer::Net,
-    near: &[u64; 768],
-    feed: &[u64; 768],
+    sides: &[u64; 768],
+    feeders: &[u64; 768],
     order: &[u64; 768],
     out: &mut [u64],
 )
-    requires { ⌜ Fits (networkIn (now net)) × Feeds (networkIn (now net)) × Outwards (networkIn (now net)) (now near) (now feed) (now order) × (length (now out) ≡ 768) ⌝ }
+    requires { ⌜ Fits (networkIn (now net)) × Feeds (networkIn (now net)) × Outwards (networkIn (now net)) (now sides) (now feeders) (now order) × (length (now out) ≡ 768) ⌝ }
     ensures { λ r. ⌜ HoldsTrips (networkIn (now (net .entry))) (now (out .exit)) ⌝ }
 {
-    for i in 0..buffer::lines(net) {
+    for i in 0..buffer::line_count(net) {
         let line = order[i] as usize;
-        out[line - 1] = trip_of(net, near, feed, out, line);
+        out[line - 1] = trip_of(net, sides, feeders, out, line);
     }
 }
 
 // The code of the breaker that trips for each line.
 pub fn trips(
     net: &buffer::Net,
-    near: &[u64; 768],
-    feed: &[u64; 768],
+    sides: &[u64; 768],
+    feeders: &[u64; 768],
     order: &[u64; 768],
     out: &mut [u64; 768],
 )
-    requires { ⌜ Read (networkIn (now net)) × Rules (networkIn (now net)) × Outwards (networkIn (now net)) (now near) (now feed) (now order) ⌝ }
+    requires { ⌜ Read (networkIn (now net)) × Rules (networkIn (now net)) × Outwards (networkIn (now net)) (now sides) (now feeders) (now order) ⌝ }
     ensures { λ r. ⌜ HoldsTrips (networkIn (now (net .entry))) (now (out .exit)) ⌝ }
 {
-    trips_outwards(net, near, feed, order, out);
+    trips_outwards(net, sides, feeders, order, out);
 }
 
 // The line of the breaker that trips for line i + 1.
@@ -201,7 +201,7 @@ fn impacts_behind(net: &buffer::Net, trips: &[u64; 768], sums: &[u64; 768], out:
     requires { ⌜ Read (networkIn (now net)) × Rules (networkIn (now net)) × HoldsTrips (networkIn (now net)) (now trips) × HoldsCustomers (networkIn (now net)) (now sums) × (length (now out) ≡ 768) ⌝ }
     ensures { λ r. ⌜ HoldsImpacts (networkIn (now (net .entry))) (now (out .exit)) ⌝ }
 {
-    for i in 0..buffer::lines(net) {
+    for i in 0..buffer::line_count(net) {
         let line = trip_line(trips, i);
         out[i] = sums[line - 1];
     }
@@ -231,7 +231,7 @@ pub fn total_of(net: &buffer::Net, impacts: &[u64; 768]) -> Total
     ensures { λ r. ⌜ r .0 ≡ totalOf (networkIn (now (net .entry))) ⌝ }
 {
     let mut total = Total::ZERO;
-    for line in 1..buffer::lines(net) + 1 {
+    for line in 1..buffer::line_count(net) + 1 {
         total = total.plus(outage_amount(net, impacts, line));
     }
     total

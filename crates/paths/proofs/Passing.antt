@@ -75,8 +75,8 @@ module _ (N : Network) (a : Accepted N) (l : ℕ) (i : 1 ≤ l) (j : l ≤ lengt
 abbrev pub Done : Network → List ℕ → List ℕ → List ℕ → List ℕ → List ℕ → ℕ → Type 0
 Done N order trips firsts stops counts i = (j : ℕ) → j < i → Meets N (route N (getD order j 0)) (metIn trips firsts stops counts (getD order j 0))
 
-module _ (N : Network) (near feed order : List ℕ) (o : Outwards N near feed order) where
-  pub holds-feeders : HoldsFeeders N near feed
+module _ (N : Network) (near feeders order : List ℕ) (o : Outwards N near feeders order) where
+  pub holds-feeders : HoldsFeeders N near feeders
   holds-feeders = record { nears = o .nears; feeds = o .feeds }
 
   module _ (trips firsts stops counts : List ℕ) where

@@ -37,9 +37,9 @@ pathBeyond N zero = []
 pathBeyond N (suc k) = far (nearEnd N (suc k)) ∷ route N (suc k)
 
 -- the near end of each line, and the line that feeds it
-pub record HoldsFeeders (N : Network) (near feed : List ℕ) : Type 0 where
+pub record HoldsFeeders (N : Network) (near feeders : List ℕ) : Type 0 where
   pub nears : HoldsSides N near
-  pub feeds : (l : ℕ) → 1 ≤ l → l ≤ length (N .lines) → getD feed (l - 1) 0 ≡ feeder N l
+  pub feeds : (l : ℕ) → 1 ≤ l → l ≤ length (N .lines) → getD feeders (l - 1) 0 ≡ feeder N l
 
 -- the four numbers of a line in their buffers
 abbrev pub metIn : List ℕ → List ℕ → List ℕ → List ℕ → ℕ → Met

@@ -37,7 +37,7 @@ pub fn fill_ends(net: &buffer::Net, ends: &mut [u64; 65])
     ensures { λ r. ⌜ HoldsEnds (networkIn (now (net .entry))) (now (ends .exit)) × (length (now (ends .exit)) ≡ 65) ⌝ }
 {
     no_ends(ends);
-    for place in 1..buffer::places(net) + 1 {
+    for place in 1..buffer::place_count(net) + 1 {
         ends[place] = end_of(net, place) as u64;
     }
 }
@@ -62,7 +62,7 @@ pub fn fill_places(net: &buffer::Net, marks: &mut [u64; 1537])
     ensures { λ r. ⌜ HoldsPlaces (networkIn (now (net .entry))) (now (marks .exit)) ⌝ }
 {
     no_marks(marks);
-    let mut place = buffer::places(net);
+    let mut place = buffer::place_count(net);
     while is_place(place) {
         marks[end_of(net, place)] = place as u64;
         place -= 1;
@@ -116,7 +116,7 @@ fn met_from(net: &buffer::Net, marks: &[u64; 1537], code: usize, beyond: Met) ->
 // What the path of a station meets that a line feeds; that of an HV station where the line is 0.
 fn met_beyond(
     net: &buffer::Net,
-    near: &[u64; 768],
+    sides: &[u64; 768],
     marks: &[u64; 1537],
     trips: &[u64],
     firsts: &[u64],
@@ -124,7 +124,7 @@ fn met_beyond(
     counts: &[u64],
     line: usize,
 ) -> Met
-    requires { ⌜ Accepted (networkIn (now net)) × HoldsPlaces (networkIn (now net)) (now marks) × (line ≤ length (networkIn (now net) .lines)) × (1 ≤ line → getD (now near) (line - 1) 0 ≡ nearEnd (networkIn (now net)) line .side) × (1 ≤ line → Meets (networkIn (now net)) (route (networkIn (now net)) line) (metIn (now trips) (now firsts) (now stops) (now counts) line)) × (length (now trips) ≡ 768) × (length (now firsts) ≡ 768) × (length (now stops) ≡ 768) × (length (now counts) ≡ 768) ⌝ }
+    requires { ⌜ Accepted (networkIn (now net)) × HoldsPlaces (networkIn (now net)) (now marks) × (line ≤ length (networkIn (now net) .lines)) × (1 ≤ line → getD (now sides) (line - 1) 0 ≡ nearEnd (networkIn (now net)) line .side) × (1 ≤ line → Meets (networkIn (now net)) (route (networkIn (now net)) line) (metIn (now trips) (now firsts) (now stops) (now counts) line)) × (length (now trips) ≡ 768) × (length (now firsts) ≡ 768) × (length (now stops) ≡ 768) × (length (now counts) ≡ 768) ⌝ }
     ensures { λ r. ⌜ Meets (networkIn (now (net .entry))) (pathBeyond (networkIn (now (net .entry))) line) r × (r .count ≤ 9) ⌝ }
 {
     if line == 0 {
@@ -142,14 +142,14 @@ fn met_beyond(
         count: counts[line - 1],
     };
     // the far end
-    met_from(net, marks, 2 * line + 1 - near[line - 1] as usize, met)
+    met_from(net, marks, 2 * line + 1 - sides[line - 1] as usize, met)
 }
 
 // What the path of a line meets, where the buffers have that of the line that feeds it.
 fn line_met(
     net: &buffer::Net,
-    near: &[u64; 768],
-    feed: &[u64; 768],
+    sides: &[u64; 768],
+    feeders: &[u64; 768],
     marks: &[u64; 1537],
     trips: &[u64],
     firsts: &[u64],
@@ -157,29 +157,29 @@ fn line_met(
     counts: &[u64],
     line: usize,
 ) -> Met
-    requires { ⌜ Accepted (networkIn (now net)) × HoldsPlaces (networkIn (now net)) (now marks) × HoldsFeeders (networkIn (now net)) (now near) (now feed) × (1 ≤ line) × (line ≤ length (networkIn (now net) .lines)) ⌝ }
+    requires { ⌜ Accepted (networkIn (now net)) × HoldsPlaces (networkIn (now net)) (now marks) × HoldsFeeders (networkIn (now net)) (now sides) (now feeders) × (1 ≤ line) × (line ≤ length (networkIn (now net) .lines)) ⌝ }
     requires { ⌜ (1 ≤ feeder (networkIn (now net)) line → Meets (networkIn (now net)) (route (networkIn (now net)) (feeder (networkIn (now net)) line)) (metIn (now trips) (now firsts) (now stops) (now counts) (feeder (networkIn (now net)) line))) × (length (now trips) ≡ 768) × (length (now firsts) ≡ 768) × (length (now stops) ≡ 768) × (length (now counts) ≡ 768) ⌝ }
     ensures { λ r. ⌜ Meets (networkIn (now (net .entry))) (route (networkIn (now (net .entry))) line) r ⌝ }
 {
     let beyond = met_beyond(
         net,
-        near,
+        sides,
         marks,
         trips,
         firsts,
         stops,
         counts,
-        feed[line - 1] as usize,
+        feeders[line - 1] as usize,
     );
     // the near end
-    met_from(net, marks, 2 * line + near[line - 1] as usize - 2, beyond)
+    met_from(net, marks, 2 * line + sides[line - 1] as usize - 2, beyond)
 }
 
 // What the path of each line meets, from the HV stations outwards.
 fn lines_outwards(
     net: &buffer::Net,
-    near: &[u64; 768],
-    feed: &[u64; 768],
+    sides: &[u64; 768],
+    feeders: &[u64; 768],
     order: &[u64; 768],
     marks: &[u64; 1537],
     trips: &mut [u64],
@@ -187,12 +187,22 @@ fn lines_outwards(
     stops: &mut [u64],
     counts: &mut [u64],
 )
-    requires { ⌜ Accepted (networkIn (now net)) × Outwards (networkIn (now net)) (now near) (now feed) (now order) × HoldsPlaces (networkIn (now net)) (now marks) × (length (now trips) ≡ 768) × (length (now firsts) ≡ 768) × (length (now stops) ≡ 768) × (length (now counts) ≡ 768) ⌝ }
+    requires { ⌜ Accepted (networkIn (now net)) × Outwards (networkIn (now net)) (now sides) (now feeders) (now order) × HoldsPlaces (networkIn (now net)) (now marks) × (length (now trips) ≡ 768) × (length (now firsts) ≡ 768) × (length (now stops) ≡ 768) × (length (now counts) ≡ 768) ⌝ }
     ensures { λ r. ⌜ HoldsLines (networkIn (now (net .entry))) (now (trips .exit)) (now (firsts .exit)) (now (stops .exit)) (now (counts .exit)) ⌝ }
 {
-    for i in 0..buffer::lines(net) {
+    for i in 0..buffer::line_count(net) {
         let line = order[i] as usize;
-        let met = line_met(net, near, feed, marks, trips, firsts, stops, counts, line);
+        let met = line_met(
+            net,
+            sides,
+            feeders,
+            marks,
+            trips,
+            firsts,
+            stops,
+            counts,
+            line,
+        );
         trips[line - 1] = met.trip;
         firsts[line - 1] = met.first;
         stops[line - 1] = met.stop;
@@ -203,8 +213,8 @@ fn lines_outwards(
 // What the path of each line meets first, a breaker, a place, either of the two; and how many breakers are on it.
 pub fn fill_lines(
     net: &buffer::Net,
-    near: &[u64; 768],
-    feed: &[u64; 768],
+    sides: &[u64; 768],
+    feeders: &[u64; 768],
     order: &[u64; 768],
     marks: &[u64; 1537],
     trips: &mut [u64; 768],
@@ -212,8 +222,18 @@ pub fn fill_lines(
     stops: &mut [u64; 768],
     counts: &mut [u64; 768],
 )
-    requires { ⌜ Accepted (networkIn (now net)) × Outwards (networkIn (now net)) (now near) (now feed) (now order) × HoldsPlaces (networkIn (now net)) (now marks) ⌝ }
+    requires { ⌜ Accepted (networkIn (now net)) × Outwards (networkIn (now net)) (now sides) (now feeders) (now order) × HoldsPlaces (networkIn (now net)) (now marks) ⌝ }
     ensures { λ r. ⌜ HoldsLines (networkIn (now (net .entry))) (now (trips .exit)) (now (firsts .exit)) (now (stops .exit)) (now (counts .exit)) ⌝ }
 {
-    lines_outwards(net, near, feed, order, marks, trips, firsts, stops, counts);
+    lines_outwards(
+        net,
+        sides,
+        feeders,
+        order,
+        marks,
+        trips,
+        firsts,
+        stops,
+        counts,
+    );
 }

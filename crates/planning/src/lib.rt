@@ -11,7 +11,7 @@ ghost use Rattle.model.specs.Walk.{search};
 ghost use Rattle.prospects.specs.Chosen.{Tables};
 ghost use Rattle.search.specs.Walking.{foundIn};
 ghost use Rattle.bounds.specs.Bounds.{HoldsBounds};
-ghost use Rattle.starts.specs.Level.{Level};
+ghost use Rattle.starts.specs.Outlook.{Outlook};
 ghost use Rattle.tree.specs.Outwards.{Outwards};
 ghost use Rattle.loading.specs.Loading.{Prepared};
 ghost use Rattle.relations.specs.Related.{HoldsRelations};
@@ -25,7 +25,7 @@ fn relations_space() -> [u64; 4225] {
     [0; 4225]
 }
 
-// Room for what a walk changes in its level.
+// Room for what a walk changes in its outlook.
 fn saved_space() -> [u64; 3120]
     ensures { λ r. ⌜ length r ≡ 3120 ⌝ }
 {
@@ -37,19 +37,19 @@ fn marks_space() -> [u64; 1537] {
     [0; 1537]
 }
 
-// The relations of the places, the later ones that each is related to, the codes of their ends, and the level of the empty set.
+// The relations of the places, the later ones that each is related to, the codes of their ends, and the outlook of the empty set.
 fn prepare(
     net: &buffer::Net,
-    near: &[u64; 768],
-    feed: &[u64; 768],
+    sides: &[u64; 768],
+    feeders: &[u64; 768],
     order: &[u64; 768],
     relations: &mut [u64; 4225],
     lists: &mut [u64; 4225],
     ends: &mut [u64; 65],
-    level: &mut [u64; 195],
+    outlook: &mut [u64; 195],
 )
-    requires { ⌜ Accepted (networkIn (now net)) × Outwards (networkIn (now net)) (now near) (now feed) (now order) ⌝ }
-    ensures { λ r. ⌜ HoldsRelations (networkIn (now (net .entry))) (now (relations .exit)) × HoldsLists (now (relations .exit)) (now (lists .exit)) (length (networkIn (now (net .entry)) .places)) × HoldsEnds (networkIn (now (net .entry))) (now (ends .exit)) × Level (networkIn (now (net .entry))) [] 1 (now (level .exit)) × (length (now (level .exit)) ≡ 195) ⌝ }
+    requires { ⌜ Accepted (networkIn (now net)) × Outwards (networkIn (now net)) (now sides) (now feeders) (now order) ⌝ }
+    ensures { λ r. ⌜ HoldsRelations (networkIn (now (net .entry))) (now (relations .exit)) × HoldsLists (now (relations .exit)) (now (lists .exit)) (length (networkIn (now (net .entry)) .places)) × HoldsEnds (networkIn (now (net .entry))) (now (ends .exit)) × Outlook (networkIn (now (net .entry))) [] 1 (now (outlook .exit)) × (length (now (outlook .exit)) ≡ 195) ⌝ }
 {
     let mut marks = marks_space();
     let mut trips = loading::lines_space();
@@ -60,8 +60,8 @@ fn prepare(
     paths::fill_places(net, &mut marks);
     paths::fill_lines(
         net,
-        near,
-        feed,
+        sides,
+        feeders,
         order,
         &marks,
         &mut trips,
@@ -69,18 +69,18 @@ fn prepare(
         &mut stops,
         &mut counts,
     );
-    relations::fill_relations(net, near, feed, &marks, &firsts, relations);
-    relations::fill_lists(relations, buffer::places(net), lists);
-    starts::start_level(
+    relations::fill_relations(net, sides, feeders, &marks, &firsts, relations);
+    relations::fill_lists(relations, buffer::place_count(net), lists);
+    starts::start_outlook(
         net,
-        near,
+        sides,
         &marks,
         &trips,
         &firsts,
         &stops,
         &counts,
         relations,
-        level,
+        outlook,
     );
 }
 
@@ -90,47 +90,47 @@ fn network_bounds(
     relations: &[u64; 4225],
     ends: &[u64; 65],
     sums: &[u64; 768],
-    level: &[u64; 195],
+    outlook: &[u64; 195],
     bounds: &mut [u64; 1105],
 )
-    requires { ⌜ Tables (networkIn (now net)) (now relations) (now ends) (now sums) × Level (networkIn (now net)) [] 1 (now level) × (length (now bounds) ≡ 1105) ⌝ }
+    requires { ⌜ Tables (networkIn (now net)) (now relations) (now ends) (now sums) × Outlook (networkIn (now net)) [] 1 (now outlook) × (length (now bounds) ≡ 1105) ⌝ }
     ensures { λ r. ⌜ HoldsBounds (networkIn (now (net .entry))) (now (bounds .exit)) ⌝ }
 {
     let mut savings = [0u64; 64];
-    prospects::savings_of(net, relations, ends, sums, level, &mut savings);
-    bounds::fill_bounds(&savings, buffer::places(net), bounds);
+    prospects::savings_of(net, relations, ends, sums, outlook, &mut savings);
+    bounds::fill_bounds(&savings, buffer::place_count(net), bounds);
 }
 
 // The search of an accepted network, with the customers behind each line and its total: what it found, with the best set's places
 // at the start of `best`.
 pub fn best_set(
     net: &buffer::Net,
-    near: &[u64; 768],
-    feed: &[u64; 768],
+    sides: &[u64; 768],
+    feeders: &[u64; 768],
     order: &[u64; 768],
     sums: &[u64; 768],
     total: Total,
     best: &mut [u64; 16],
 ) -> Progress
-    requires { ⌜ Accepted (networkIn (now net)) × Outwards (networkIn (now net)) (now near) (now feed) (now order) × HoldsCustomers (networkIn (now net)) (now sums) × (total .0 ≡ totalOf (networkIn (now net))) ⌝ }
+    requires { ⌜ Accepted (networkIn (now net)) × Outwards (networkIn (now net)) (now sides) (now feeders) (now order) × HoldsCustomers (networkIn (now net)) (now sums) × (total .0 ≡ totalOf (networkIn (now net))) ⌝ }
     ensures { λ r. ⌜ (foundIn r (now (best .exit)) ≡ search (networkIn (now (net .entry)))) × (length (now (best .exit)) ≡ 16) × (r .count ≤ 16) ⌝ }
 {
     let mut relations = relations_space();
     let mut lists = relations_space();
     let mut ends = [0u64; 65];
-    let mut level = [0u64; 195];
+    let mut outlook = [0u64; 195];
     prepare(
         net,
-        near,
-        feed,
+        sides,
+        feeders,
         order,
         &mut relations,
         &mut lists,
         &mut ends,
-        &mut level,
+        &mut outlook,
     );
     let mut bounds = [0u64; 1105];
-    network_bounds(net, &relations, &ends, sums, &level, &mut bounds);
+    network_bounds(net, &relations, &ends, sums, &outlook, &mut bounds);
     let mut saved = saved_space();
     let mut set = [0u64; 16];
     *best = [0u64; 16];
@@ -141,7 +141,7 @@ pub fn best_set(
         &lists,
         sums,
         &bounds,
-        &mut level,
+        &mut outlook,
         &mut saved,
         &mut set,
         best,
@@ -152,20 +152,20 @@ pub fn best_set(
 // The search of an accepted network, from what is prepared of it.
 pub fn search_network(
     net: &buffer::Net,
-    heads: &[u64; 512],
+    chains: &[u64; 512],
     nexts: &[u64; 1536],
-    near: &[u64; 768],
-    feed: &[u64; 768],
+    sides: &[u64; 768],
+    feeders: &[u64; 768],
     order: &[u64; 768],
     best: &mut [u64; 16],
 ) -> Progress
-    requires { ⌜ Accepted (networkIn (now net)) × Prepared (networkIn (now net)) (now heads) (now nexts) (now near) (now feed) (now order) ⌝ }
+    requires { ⌜ Accepted (networkIn (now net)) × Prepared (networkIn (now net)) (now chains) (now nexts) (now sides) (now feeders) (now order) ⌝ }
     ensures { λ r. ⌜ (foundIn r (now (best .exit)) ≡ search (networkIn (now (net .entry)))) × (length (now (best .exit)) ≡ 16) × (r .count ≤ 16) ⌝ }
 {
     let mut sums = loading::lines_space();
-    outage::customers_behind(net, heads, nexts, &mut sums);
+    outage::customers_behind(net, chains, nexts, &mut sums);
     let mut impacts = loading::lines_space();
-    loading::line_impacts(net, near, feed, order, &sums, &mut impacts);
+    loading::line_impacts(net, sides, feeders, order, &sums, &mut impacts);
     let total = outage::total_of(net, &impacts);
-    best_set(net, near, feed, order, &sums, total, best)
+    best_set(net, sides, feeders, order, &sums, total, best)
 }

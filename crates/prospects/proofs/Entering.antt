@@ -1,4 +1,4 @@
--- The level of a set without its last member becomes the set's own, place by place of those that the member is related to.
+-- The outlook of a set without its last member becomes the set's own, place by place of those that the member is related to.
 use Prim.Native.Nat.{ℕ, _+_, _*_, _≤_, _<_}
 use mathlib.Core.Path.{_≡_, refl, ap, _∙_, subst}
 use mathlib.Core.Logic.{inr, ⊎-elim}
@@ -10,34 +10,34 @@ use lib.ListN.{length, getD}
 use Rattle.model.specs.Network.{Network}
 use Rattle.savings.specs.Breakers.{endAt}
 use Rattle.tree.specs.Linked.{endCode}
-use Rattle.sets.specs.Sets.{nearAt, weightAt, worstAt}
-use Rattle.starts.specs.Level.{Values}
+use Rattle.sets.specs.Sets.{upstreamAt, weightAt, inSeriesAt}
+use Rattle.starts.specs.Outlook.{Values}
 use Rattle.relations.specs.Lists.{many, listed, Row, Listed, SameUpTo}
 use Rattle.prospects.specs.Changes.{Same, Changed, Put, Keeping}
 use Rattle.prospects.specs.Chosen.{Later, Entering, Entered}
-use Rattle.prospects.proofs.Levels.{later-of, values-kept}
+use Rattle.prospects.proofs.Outlooks.{later-of, values-kept}
 use Rattle.prospects.proofs.Undoing.{changed-none, changed-more}
 
 -- a place whose numbers are the same has the same values
 values-same : {N : Network} {S old new : List ℕ} {p : ℕ} → Same old new p → Values N S p old → Values N S p new
-values-same s v = record { near = s .0 ∙ v .near; weight = s .1 ∙ v .weight; worst = s .2 ∙ v .worst }
+values-same s v = record { upstream = s .0 ∙ v .upstream; weight = s .1 ∙ v .weight; in-series = s .2 ∙ v .in-series }
 
 -- a row of a file's lists, in the lists' room
 pub row-wide : {lists : List ℕ} {q m end : ℕ} → end ≤ 65 → Row lists q m end → Row lists q m 65
 row-wide h r = record { few = omega (arith, r .few); later = λ i a b. (r .later i a b .0, omega (arith, r .later i a b .1)); rising = r .rising }
 
 -- the places listed before index i are written
-pub record Written (N : Network) (lists S : List ℕ) (size last : ℕ) (level₀ saved₀ : List ℕ) (i end : ℕ) (level saved : List ℕ) : Type 0 where
+pub record Written (N : Network) (lists S : List ℕ) (size last : ℕ) (outlook₀ saved₀ : List ℕ) (i end : ℕ) (outlook saved : List ℕ) : Type 0 where
   pub low : 1 ≤ i
   pub within : i ≤ end
   pub all : end ≡ many lists last + 1
-  pub levelLong : length level ≡ 195
+  pub outlookLong : length outlook ≡ 195
   pub savedLong : length saved ≡ 3120
-  pub changed : Changed lists last (size * 195) 1 i level₀ level saved
-  pub values : (j : ℕ) → 1 ≤ j → j < i → Values N S (listed lists last j) level
+  pub changed : Changed lists last (size * 195) 1 i outlook₀ outlook saved
+  pub values : (j : ℕ) → 1 ≤ j → j < i → Values N S (listed lists last j) outlook
   pub below : SameUpTo (size * 195) saved₀ saved
 
-module _ {N : Network} {relations ends lists level₀ saved₀ S : List ℕ} {size last : ℕ} (x : Entering N relations ends lists level₀ saved₀ S size last) where
+module _ {N : Network} {relations ends lists outlook₀ saved₀ S : List ℕ} {size last : ℕ} (x : Entering N relations ends lists outlook₀ saved₀ S size last) where
   places-few : length (N .places) ≤ 64
   places-few = x .chosen .accepted .read .placeCount
 
@@ -50,19 +50,19 @@ module _ {N : Network} {relations ends lists level₀ saved₀ S : List ℕ} {si
   pub last-few : last ≤ 64
   last-few = omega (arith, x .chosen .high, places-few)
 
-  pub written-none : (end : ℕ) → end ≡ many lists last + 1 → Written N lists S size last level₀ saved₀ 1 end level₀ saved₀
+  pub written-none : (end : ℕ) → end ≡ many lists last + 1 → Written N lists S size last outlook₀ saved₀ 1 end outlook₀ saved₀
   written-none end e = record {
     low = omega arith;
     within = omega arith;
     all = e;
-    levelLong = x .levelLong;
+    outlookLong = x .outlookLong;
     savedLong = x .savedLong;
     changed = changed-none row;
     values = λ j a b. absurd (omega arith);
     below = λ k h. refl;
   }
 
-  module _ {i end : ℕ} {level saved : List ℕ} (w : Written N lists S size last level₀ saved₀ i end level saved) where
+  module _ {i end : ℕ} {outlook saved : List ℕ} (w : Written N lists S size last outlook₀ saved₀ i end outlook saved) where
     module _ (h : i < end) where
       abbrev place : ℕ
       place = listed lists last i
@@ -74,7 +74,7 @@ module _ {N : Network} {relations ends lists level₀ saved₀ S : List ℕ} {si
       place-few = omega (arith, row .later i (w .low) high)
 
       -- the place and the last member are as they were
-      pub later-place : Later N relations level S last place
+      pub later-place : Later N relations outlook S last place
       later-place =
           let l = own .row .later i (w .low) high in
           record {
@@ -91,33 +91,33 @@ module _ {N : Network} {relations ends lists level₀ saved₀ S : List ℕ} {si
             );
           }
 
-      pub written-more : {n v m : ℕ} {level' saved' : List ℕ} → n ≡ endCode (nearAt N S (endAt N place)) → v ≡ weightAt N S (endAt N place) → m ≡ worstAt N S (endAt N place)
-          → Keeping level (size * 195) place saved saved' → Put place n v m level level' → Written N lists S size last level₀ saved₀ (i + 1) end level' saved'
+      pub written-more : {n v m : ℕ} {outlook' saved' : List ℕ} → n ≡ endCode (upstreamAt N S (endAt N place)) → v ≡ weightAt N S (endAt N place) → m ≡ inSeriesAt N S (endAt N place)
+          → Keeping outlook (size * 195) place saved saved' → Put place n v m outlook outlook' → Written N lists S size last outlook₀ saved₀ (i + 1) end outlook' saved'
       written-more en ev em k p = record {
         low = omega arith;
         within = omega arith;
         all = w .all;
-        levelLong = p .long;
+        outlookLong = p .long;
         savedLong = k .long;
         changed = changed-more row (w .low) high (w .changed) k p;
         values = λ j a b. ⊎-elim
-            (λ e. rw e (record { near = p .near ∙ en; weight = p .weight ∙ ev; worst = p .worst ∙ em }))
+            (λ e. rw e (record { upstream = p .upstream ∙ en; weight = p .weight ∙ ev; in-series = p .in-series ∙ em }))
             (λ l. values-same (p .others (listed lists last j) (omega (arith, row .later j a (omega (arith, high)))) (λ e. omega (arith, own .row .rising j i a l high))) (w .values j a l))
             (eq-or-lt-of-le {n = j} {m = i} (omega arith));
         below = λ q l. k .below q l ∙ w .below q l;
       }
 
     -- all of them are, and the others are not related to the last member
-    pub written-all : end ≤ i → Entered N lists S size last level₀ level saved₀ saved
+    pub written-all : end ≤ i → Entered N lists S size last outlook₀ outlook saved₀ saved
     written-all h = record {
-      levelLong = w .levelLong;
+      outlookLong = w .outlookLong;
       savedLong = w .savedLong;
       own = λ p a b. at p a b (ℕ-discrete (getD relations (last * 65 + p) 0) 0);
-      changed = subst (λ e. Changed lists last (size * 195) 1 e level₀ level saved) (omega (arith, w .all, w .within)) (w .changed);
+      changed = subst (λ e. Changed lists last (size * 195) 1 e outlook₀ outlook saved) (omega (arith, w .all, w .within)) (w .changed);
       below = w .below;
     }
       where
-        at : (p : ℕ) → last + 1 ≤ p → p ≤ length (N .places) → Dec (getD relations (last * 65 + p) 0 ≡ 0) → Values N S p level
+        at : (p : ℕ) → last + 1 ≤ p → p ≤ length (N .places) → Dec (getD relations (last * 65 + p) 0 ≡ 0) → Values N S p outlook
         at p a b (yes z) = values-same (w .changed .same p (omega (arith, places-few)) (λ j c d e. own .only j c (omega (arith, w .all, w .within)) (ap (λ r. getD relations (last * 65 + r) 0) e ∙ z)))
             (values-kept (later-of (x .chosen) (inr (refl, x .without, x .holds)) p (omega arith) b) z)
-        at p a b (no n) = let k = own .all p (omega arith) (omega arith) n in subst (λ r. Values N S r level) (k .is) (w .values (k .at) (k .low) (omega (arith, k .high, w .all)))
+        at p a b (no n) = let k = own .all p (omega arith) (omega arith) n in subst (λ r. Values N S r outlook) (k .is) (w .values (k .at) (k .low) (omega (arith, k .high, w .all)))

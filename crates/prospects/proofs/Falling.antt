@@ -18,21 +18,21 @@ use Rattle.theory.specs.Behind.{side-of}
 use Rattle.tree.specs.Linked.{endCode}
 use Rattle.outage.specs.Held.{HoldsCustomers}
 use Rattle.outage.proofs.Paths.{behind-line}
-use Rattle.sets.specs.Sets.{nearAt, weightAt, set-total}
+use Rattle.sets.specs.Sets.{upstreamAt, weightAt, set-total}
 use Rattle.prospects.specs.Chosen.{Chosen, Later}
-use Rattle.prospects.proofs.Nearby.{end-closed, before-free, near-closed, behind-near}
+use Rattle.prospects.proofs.Upstream.{end-closed, before-free, upstream-closed, behind-upstream}
 use Rattle.prospects.proofs.OneMore.{before-later}
-use Rattle.prospects.proofs.Levels.{chosen-valid}
+use Rattle.prospects.proofs.Outlooks.{chosen-valid}
 
-module _ {N : Network} {relations level S : List ℕ} {by p : ℕ} (y : Later N relations level S by p) where
+module _ {N : Network} {relations outlook S : List ℕ} {pending p : ℕ} (y : Later N relations outlook S pending p) where
   abbrev x : Chosen N relations S (y .last)
   x = y .chosen
 
   abbrev e : End
   e = endAt N p
 
-  abbrev near : End
-  near = nearAt N S e
+  abbrev upstream : End
+  upstream = upstreamAt N S e
 
   closed : isOpen N e ≡ false
   closed = end-closed N (x .accepted) p (omega (arith, y .low)) (y .high)
@@ -40,28 +40,28 @@ module _ {N : Network} {relations level S : List ℕ} {by p : ℕ} (y : Later N 
   pub free : breakersWith N S e ≡ false
   free = before-free N (x .accepted) p (omega (arith, y .low)) (y .high) S (before-later (y .last + 1) p S (omega (arith, y .low)) (x .members))
 
-  near-shut : isOpen N near ≡ false
-  near-shut = near-closed N (x .accepted) S (chosen-valid x) e closed free
+  upstream-shut : isOpen N upstream ≡ false
+  upstream-shut = upstream-closed N (x .accepted) S (chosen-valid x) e closed free
 
   pub own-line : {line : ℕ} → line ≡ placeAt N p .line → (1 ≤ line) × (line ≤ 768)
   own-line q = let l = closed-end N e closed in (omega (arith, q, l .0), omega (arith, q, l .1, x .accepted .read .lineCount, x .accepted .read .head .lines .high))
 
-  -- the line of the near breaker, by its code
-  module _ {code : ℕ} (c : code ≡ endCode near) where
-    line-is : (code + 1) / 2 ≡ near .line
-    line-is = let l = closed-end N near near-shut in let s = side-of N near near-shut in omega (arith, c, l .0)
+  -- the line of the upstream breaker, by its code
+  module _ {code : ℕ} (c : code ≡ endCode upstream) where
+    line-is : (code + 1) / 2 ≡ upstream .line
+    line-is = let l = closed-end N upstream upstream-shut in let s = side-of N upstream upstream-shut in omega (arith, c, l .0)
 
     pub line-there : (1 ≤ (code + 1) / 2) × ((code + 1) / 2 ≤ 768)
-    line-there = let l = closed-end N near near-shut in (omega (arith, line-is, l .0), omega (arith, line-is, l .1, x .accepted .read .lineCount, x .accepted .read .head .lines .high))
+    line-there = let l = closed-end N upstream upstream-shut in (omega (arith, line-is, l .0), omega (arith, line-is, l .1, x .accepted .read .lineCount, x .accepted .read .head .lines .high))
 
     module _ (sums : List ℕ) (h : HoldsCustomers N sums) {line : ℕ} (q : line ≡ placeAt N p .line) where
       abbrev spared : ℕ
       spared = getD sums ((code + 1) / 2 - 1) 0 - getD sums (line - 1) 0
 
-      behind-near-is : getD sums ((code + 1) / 2 - 1) 0 ≡ customersBehind N near
-      behind-near-is =
-          let l = closed-end N near near-shut in
-          ap (λ k. getD sums (k - 1) 0) line-is ∙ h (near .line) (l .0) (l .1) ∙ sym (behind-line N (x .accepted .read) (x .accepted .rules) near near-shut)
+      behind-upstream-is : getD sums ((code + 1) / 2 - 1) 0 ≡ customersBehind N upstream
+      behind-upstream-is =
+          let l = closed-end N upstream upstream-shut in
+          ap (λ k. getD sums (k - 1) 0) line-is ∙ h (upstream .line) (l .0) (l .1) ∙ sym (behind-line N (x .accepted .read) (x .accepted .rules) upstream upstream-shut)
 
       behind-place-is : getD sums (line - 1) 0 ≡ customersBehind N e
       behind-place-is =
@@ -69,12 +69,12 @@ module _ {N : Network} {relations level S : List ℕ} {by p : ℕ} (y : Later N 
           ap (λ k. getD sums (k - 1) 0) q ∙ h (e .line) (l .0) (l .1) ∙ sym (behind-line N (x .accepted .read) (x .accepted .rules) e closed)
 
       pub no-fewer : getD sums (line - 1) 0 ≤ getD sums ((code + 1) / 2 - 1) 0
-      no-fewer = omega (arith, behind-near-is, behind-place-is, behind-near N (x .accepted) S (chosen-valid x) e closed free)
+      no-fewer = omega (arith, behind-upstream-is, behind-place-is, behind-upstream N (x .accepted) S (chosen-valid x) e closed free)
 
       module _ {weight : ℕ} (w : weight ≡ weightAt N S e) where
         falls : weight * spared + setTotal N (S ++ (p ∷ [])) ≡ setTotal N S
         falls =
-            let more : customersBehind N near ≡ customersBehind N e + spared = omega (arith, behind-near-is, behind-place-is, no-fewer) in
+            let more : customersBehind N upstream ≡ customersBehind N e + spared = omega (arith, behind-upstream-is, behind-place-is, no-fewer) in
             omega (
               arith,
               ap (λ n. n * spared) w,

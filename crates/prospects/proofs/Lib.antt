@@ -1,6 +1,6 @@
-pub mod Nearby
+pub mod Upstream
 pub mod OneMore
-pub mod Levels
+pub mod Outlooks
 pub mod Falling
 pub mod Undoing
 pub mod Entering

@@ -12,9 +12,9 @@ use Rattle.model.specs.Network.{Network}
 use Rattle.model.specs.Sets.{placeNumbers, withBreakers, setTotal, saving}
 use Rattle.theory.specs.Best.{Accepted}
 use Rattle.relations.specs.Related.{HoldsRelations}
-use Rattle.starts.specs.Level.{Level}
+use Rattle.starts.specs.Outlook.{Outlook}
 use Rattle.prospects.specs.Chosen.{Chosen, Later}
-use Rattle.prospects.proofs.Levels.{later-of}
+use Rattle.prospects.proofs.Outlooks.{later-of}
 
 -- the empty set
 pub chosen-none : (N : Network) (relations : List ℕ) → Accepted N → HoldsRelations N relations → Chosen N relations [] 0
@@ -47,8 +47,8 @@ unfolding numbers
 saved-none N end savings a e l = record { within = omega arith; all = e; few = omega (arith, a .read .placeCount); long = l; same = refl }
 
 module _ (N : Network) {i end : ℕ} {savings : List ℕ} (s : Saved N i end savings) where
-  pub next-later : i < end → (relations level : List ℕ) → Accepted N → HoldsRelations N relations → Level N [] 1 level → Later N relations level [] 0 (i + 1)
-  next-later h relations level a r l = later-of (chosen-none N relations a r) (inl (refl, l)) (i + 1) (omega arith) (omega (arith, s .all))
+  pub next-later : i < end → (relations outlook : List ℕ) → Accepted N → HoldsRelations N relations → Outlook N [] 1 outlook → Later N relations outlook [] 0 (i + 1)
+  next-later h relations outlook a r l = later-of (chosen-none N relations a r) (inl (refl, l)) (i + 1) (omega arith) (omega (arith, s .all))
 
   pub saved-more : (v : ℕ) → i < end → v ≡ saving N (i + 1) → Saved N (i + 1) end (set savings i v)
   saved-more v h e =

@@ -1,4 +1,4 @@
--- Changes of a level, place after place, and their undoing.
+-- Changes of an outlook, place after place, and their undoing.
 use Prim.Native.Nat.{ℕ, _+_, _-_, _≤_, _<_}
 use mathlib.Core.Path.{_≡_, refl, sym, ap, _∙_}
 use mathlib.Core.Logic.{⊎-elim}
@@ -33,29 +33,29 @@ module _ (l : List ℕ) (i j k a b c : ℕ) where
     set3-third = getD-set-same (set (set l i a) j b) k c 0 (omega (arith, length-set (set l i a) j b, length-set l i a))
 
 -- the numbers of a place are written
-pub put-is : {level : List ℕ} {p : ℕ} (a b c : ℕ) → length level ≡ 195 → p ≤ 64 → Put p a b c level (set (set (set level p a) (65 + p) b) (130 + p) c)
-put-is {level} {p} a b c n h = record {
-  long = set3-long level p (65 + p) (130 + p) a b c ∙ n;
-  near = set3-first level p (65 + p) (130 + p) a b c (omega arith) (omega arith) (omega arith);
-  weight = set3-second level p (65 + p) (130 + p) a b c (omega arith) (omega arith) (omega arith);
-  worst = set3-third level p (65 + p) (130 + p) a b c (omega arith) (omega arith) (omega arith);
+pub put-is : {outlook : List ℕ} {p : ℕ} (a b c : ℕ) → length outlook ≡ 195 → p ≤ 64 → Put p a b c outlook (set (set (set outlook p a) (65 + p) b) (130 + p) c)
+put-is {outlook} {p} a b c n h = record {
+  long = set3-long outlook p (65 + p) (130 + p) a b c ∙ n;
+  upstream = set3-first outlook p (65 + p) (130 + p) a b c (omega arith) (omega arith) (omega arith);
+  weight = set3-second outlook p (65 + p) (130 + p) a b c (omega arith) (omega arith) (omega arith);
+  in-series = set3-third outlook p (65 + p) (130 + p) a b c (omega arith) (omega arith) (omega arith);
   others = λ q f d. (
-    set3-other level p (65 + p) (130 + p) a b c q d (λ e. omega arith) (λ e. omega arith),
-    set3-other level p (65 + p) (130 + p) a b c (65 + q) (λ e. omega arith) (λ e. d (omega arith)) (λ e. omega arith),
-    set3-other level p (65 + p) (130 + p) a b c (130 + q) (λ e. omega arith) (λ e. omega arith) (λ e. d (omega arith)),
+    set3-other outlook p (65 + p) (130 + p) a b c q d (λ e. omega arith) (λ e. omega arith),
+    set3-other outlook p (65 + p) (130 + p) a b c (65 + q) (λ e. omega arith) (λ e. d (omega arith)) (λ e. omega arith),
+    set3-other outlook p (65 + p) (130 + p) a b c (130 + q) (λ e. omega arith) (λ e. omega arith) (λ e. d (omega arith)),
   );
 }
 
 -- they are kept
-pub keep-is : {level saved : List ℕ} {start p : ℕ} → length saved ≡ 3120 → start + 195 ≤ 3120 → p ≤ 64
-    → Keeping level start p saved (set (set (set saved (start + p) (getD level p 0)) (start + 65 + p) (getD level (65 + p) 0)) (start + 130 + p) (getD level (130 + p) 0))
-keep-is {level} {saved} {start} {p} n m h =
+pub keep-is : {outlook saved : List ℕ} {start p : ℕ} → length saved ≡ 3120 → start + 195 ≤ 3120 → p ≤ 64
+    → Keeping outlook start p saved (set (set (set saved (start + p) (getD outlook p 0)) (start + 65 + p) (getD outlook (65 + p) 0)) (start + 130 + p) (getD outlook (130 + p) 0))
+keep-is {outlook} {saved} {start} {p} n m h =
     let i : ℕ = start + p in
     let j : ℕ = start + 65 + p in
     let k : ℕ = start + 130 + p in
-    let a : ℕ = getD level p 0 in
-    let b : ℕ = getD level (65 + p) 0 in
-    let c : ℕ = getD level (130 + p) 0 in
+    let a : ℕ = getD outlook p 0 in
+    let b : ℕ = getD outlook (65 + p) 0 in
+    let c : ℕ = getD outlook (130 + p) 0 in
     record {
       long = set3-long saved i j k a b c ∙ n;
       kept = (set3-first saved i j k a b c (omega arith) (omega arith) (omega arith), set3-second saved i j k a b c (omega arith) (omega arith) (omega arith), set3-third saved i j k a b c (omega arith) (omega arith) (omega arith));
@@ -72,19 +72,19 @@ same-trans old mid new p a b = (b .0 ∙ a .0, b .1 ∙ a .1, b .2 ∙ a .2)
 
 module _ {lists : List ℕ} {q m start : ℕ} (row : Row lists q m 65) where
   -- nothing is changed yet
-  pub changed-none : {level saved : List ℕ} → Changed lists q start 1 1 level level saved
+  pub changed-none : {outlook saved : List ℕ} → Changed lists q start 1 1 outlook outlook saved
   changed-none = record { same = λ p h n. (refl, refl, refl); kept = λ i a b. absurd (omega arith) }
 
   -- one place more
-  module _ {i : ℕ} {old level level' saved saved' : List ℕ} {x y z : ℕ} (low : 1 ≤ i) (high : i ≤ m)
-      (c : Changed lists q start 1 i old level saved) (k : Keeping level start (listed lists q i) saved saved') (p : Put (listed lists q i) x y z level level') where
+  module _ {i : ℕ} {old outlook outlook' saved saved' : List ℕ} {x y z : ℕ} (low : 1 ≤ i) (high : i ≤ m)
+      (c : Changed lists q start 1 i old outlook saved) (k : Keeping outlook start (listed lists q i) saved saved') (p : Put (listed lists q i) x y z outlook outlook') where
     -- it is still as it was
-    still : Same old level (listed lists q i)
+    still : Same old outlook (listed lists q i)
     still = c .same (listed lists q i) (omega (arith, row .later i low high)) (λ j a b e. omega (arith, row .rising j i a b high))
 
-    pub changed-more : Changed lists q start 1 (i + 1) old level' saved'
+    pub changed-more : Changed lists q start 1 (i + 1) old outlook' saved'
     changed-more = record {
-      same = λ r h n. same-trans old level level' r (c .same r h (λ j a b. n j a (omega arith))) (p .others r h (λ e. n i low (omega arith) (sym e)));
+      same = λ r h n. same-trans old outlook outlook' r (c .same r h (λ j a b. n j a (omega arith))) (p .others r h (λ e. n i low (omega arith) (sym e)));
       kept = λ j a b. ⊎-elim
           (λ e. rw e (k .kept .0 ∙ still .0, k .kept .1 ∙ still .1, k .kept .2 ∙ still .2))
           (λ h. k .others old (listed lists q j) (omega (arith, row .later j a (omega arith))) (λ e. omega (arith, row .rising j i a h high)) (c .kept j a h))
@@ -92,23 +92,23 @@ module _ {lists : List ℕ} {q m start : ℕ} (row : Row lists q m 65) where
     }
 
   -- one place is put back
-  pub changed-less : {i : ℕ} {old level level' saved : List ℕ} → 1 ≤ i → i ≤ m
-      → Put (listed lists q i) (getD saved (start + listed lists q i) 0) (getD saved (start + 65 + listed lists q i) 0) (getD saved (start + 130 + listed lists q i) 0) level level'
-      → Changed lists q start i (m + 1) old level saved → Changed lists q start (i + 1) (m + 1) old level' saved
-  changed-less {i} {old} {level} {level'} {saved} low high p c = record {
+  pub changed-less : {i : ℕ} {old outlook outlook' saved : List ℕ} → 1 ≤ i → i ≤ m
+      → Put (listed lists q i) (getD saved (start + listed lists q i) 0) (getD saved (start + 65 + listed lists q i) 0) (getD saved (start + 130 + listed lists q i) 0) outlook outlook'
+      → Changed lists q start i (m + 1) old outlook saved → Changed lists q start (i + 1) (m + 1) old outlook' saved
+  changed-less {i} {old} {outlook} {outlook'} {saved} low high p c = record {
     same = λ r h n. at r h n (ℕ-discrete r (listed lists q i));
     kept = λ j a b. c .kept j (omega arith) b;
   }
     where
-      back : Same old level' (listed lists q i)
-      back = let o = c .kept i (omega arith) (omega arith) in (p .near ∙ o .0, p .weight ∙ o .1, p .worst ∙ o .2)
+      back : Same old outlook' (listed lists q i)
+      back = let o = c .kept i (omega arith) (omega arith) in (p .upstream ∙ o .0, p .weight ∙ o .1, p .in-series ∙ o .2)
 
-      at : (r : ℕ) → r ≤ 64 → ((j : ℕ) → i + 1 ≤ j → j < m + 1 → listed lists q j ≡ r → ⊥) → Dec (r ≡ listed lists q i) → Same old level' r
+      at : (r : ℕ) → r ≤ 64 → ((j : ℕ) → i + 1 ≤ j → j < m + 1 → listed lists q j ≡ r → ⊥) → Dec (r ≡ listed lists q i) → Same old outlook' r
       at r h n (yes e) = rw e back
-      at r h n (no d) = same-trans old level level' r (c .same r h (λ j a b e. ⊎-elim (λ k. d (sym e ∙ ap (listed lists q) (sym k))) (λ k. n j (omega arith) b e) (eq-or-lt-of-le {n = i} {m = j} a))) (p .others r h d)
+      at r h n (no d) = same-trans old outlook outlook' r (c .same r h (λ j a b e. ⊎-elim (λ k. d (sym e ∙ ap (listed lists q) (sym k))) (λ k. n j (omega arith) b e) (eq-or-lt-of-le {n = i} {m = j} a))) (p .others r h d)
 
   -- what is kept stays while the rows after it change
-  pub changed-kept : {b : ℕ} {old level saved saved' : List ℕ} → b ≤ m + 1 → SameUpTo (start + 195) saved saved' → Changed lists q start 1 b old level saved → Changed lists q start 1 b old level saved'
+  pub changed-kept : {b : ℕ} {old outlook saved saved' : List ℕ} → b ≤ m + 1 → SameUpTo (start + 195) saved saved' → Changed lists q start 1 b old outlook saved → Changed lists q start 1 b old outlook saved'
   changed-kept w s c = record {
     same = c .same;
     kept = λ i a h.
@@ -118,13 +118,13 @@ module _ {lists : List ℕ} {q m start : ℕ} (row : Row lists q m 65) where
   }
 
 -- nothing is changed any more
-pub changed-back : {lists : List ℕ} {q start a b : ℕ} {old level saved : List ℕ} → b ≤ a → length old ≡ 195 → length level ≡ 195 → Changed lists q start a b old level saved → level ≡ old
-changed-back {lists} {q} {start} {a} {b} {old} {level} {saved} d m n c = ext-getD 0 level old (n ∙ sym m) (λ i h. go i (omega arith) (decLt i 65) (decLt i 130))
+pub changed-back : {lists : List ℕ} {q start a b : ℕ} {old outlook saved : List ℕ} → b ≤ a → length old ≡ 195 → length outlook ≡ 195 → Changed lists q start a b old outlook saved → outlook ≡ old
+changed-back {lists} {q} {start} {a} {b} {old} {outlook} {saved} d m n c = ext-getD 0 outlook old (n ∙ sym m) (λ i h. go i (omega arith) (decLt i 65) (decLt i 130))
   where
-    all : (p : ℕ) → p ≤ 64 → Same old level p
+    all : (p : ℕ) → p ≤ 64 → Same old outlook p
     all p h = c .same p h (λ j x y e. omega arith)
 
-    go : (i : ℕ) → i < 195 → Dec (i < 65) → Dec (i < 130) → getD level i 0 ≡ getD old i 0
+    go : (i : ℕ) → i < 195 → Dec (i < 65) → Dec (i < 130) → getD outlook i 0 ≡ getD old i 0
     go i h (yes f) _ = all i (omega arith) .0
-    go i h (no f) (yes g) = let e : 65 + (i - 65) ≡ i = omega arith in ap (λ k. getD level k 0) (sym e) ∙ all (i - 65) (omega arith) .1 ∙ ap (λ k. getD old k 0) e
-    go i h (no f) (no g) = let e : 130 + (i - 130) ≡ i = omega arith in ap (λ k. getD level k 0) (sym e) ∙ all (i - 130) (omega arith) .2 ∙ ap (λ k. getD old k 0) e
+    go i h (no f) (yes g) = let e : 65 + (i - 65) ≡ i = omega arith in ap (λ k. getD outlook k 0) (sym e) ∙ all (i - 65) (omega arith) .1 ∙ ap (λ k. getD old k 0) e
+    go i h (no f) (no g) = let e : 130 + (i - 130) ≡ i = omega arith in ap (λ k. getD outlook k 0) (sym e) ∙ all (i - 130) (omega arith) .2 ∙ ap (λ k. getD old k 0) e

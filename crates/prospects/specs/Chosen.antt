@@ -1,4 +1,4 @@
--- The set of places that a walk has chosen, and the level of numbers that it is read from: the set's own, or that of the set without
+-- The set of places that a walk has chosen, and the outlook of numbers that it is read from: the set's own, or that of the set without
 -- its last member, with which the numbers change by how the two places stand to each other.
 use Prim.Native.Nat.{ℕ, _+_, _*_, _≤_, _<_}
 use mathlib.Core.Path.{_≡_}
@@ -14,7 +14,7 @@ use Rattle.theory.specs.Best.{Accepted}
 use Rattle.outage.specs.Held.{HoldsCustomers}
 use Rattle.relations.specs.Related.{HoldsRelations}
 use Rattle.paths.specs.Held.{HoldsEnds}
-use Rattle.starts.specs.Level.{Values, Level}
+use Rattle.starts.specs.Outlook.{Values, Outlook}
 use Rattle.relations.specs.Lists.{many, HoldsLists, SameUpTo}
 use Rattle.prospects.specs.Changes.{Changed}
 
@@ -37,18 +37,18 @@ pub record Without (S : List ℕ) (last : ℕ) : Type 0 where
   pub is : S ≡ rest ++ (last ∷ [])
   pub before : Before last rest
 
--- the level is the set's own, where `by` is 0, or that of the set without its last member, which is `by`
-abbrev pub Levelled : Network → List ℕ → List ℕ → ℕ → ℕ → Type 0
-Levelled N level S last by = ((by ≡ 0) × Level N S (last + 1) level) ⊎ ((by ≡ last) × (w : Without S last) × Level N (w .rest) last level)
+-- the outlook is the set's own, where `pending` is 0, or that of the set without its last member, which is `pending`
+abbrev pub Pending : Network → List ℕ → List ℕ → ℕ → ℕ → Type 0
+Pending N outlook S last pending = ((pending ≡ 0) × Outlook N S (last + 1) outlook) ⊎ ((pending ≡ last) × (w : Without S last) × Outlook N (w .rest) last outlook)
 
--- a place after the last member, with the numbers that the level has of the two
-pub record Later (N : Network) (relations level S : List ℕ) (by place : ℕ) : Type 0 where
+-- a place after the last member, with the numbers that the outlook has of the two
+pub record Later (N : Network) (relations outlook S : List ℕ) (pending place : ℕ) : Type 0 where
   pub last : ℕ
   pub chosen : Chosen N relations S last
   pub low : last < place
   pub high : place ≤ length (N .places)
-  pub early : by ≤ last
-  pub values : ((by ≡ 0) × Values N S place level) ⊎ ((by ≡ last) × (w : Without S last) × Values N (w .rest) last level × Values N (w .rest) place level)
+  pub early : pending ≤ last
+  pub values : ((pending ≡ 0) × Values N S place outlook) ⊎ ((pending ≡ last) × (w : Without S last) × Values N (w .rest) last outlook × Values N (w .rest) place outlook)
 
 -- the file, how its places stand to each other, their ends, and the customers behind each line
 pub record Tables (N : Network) (relations ends sums : List ℕ) : Type 0 where
@@ -57,21 +57,21 @@ pub record Tables (N : Network) (relations ends sums : List ℕ) : Type 0 where
   pub coded : HoldsEnds N ends
   pub behind : HoldsCustomers N sums
 
--- the level is that of the set without its last member, and there is room for what changes with it
-pub record Entering (N : Network) (relations ends lists level saved S : List ℕ) (size last : ℕ) : Type 0 where
+-- the outlook is that of the set without its last member, and there is room for what changes with it
+pub record Entering (N : Network) (relations ends lists outlook saved S : List ℕ) (size last : ℕ) : Type 0 where
   pub chosen : Chosen N relations S last
   pub coded : HoldsEnds N ends
   pub related : HoldsLists relations lists (length (N .places))
   pub without : Without S last
-  pub holds : Level N (without .rest) last level
-  pub levelLong : length level ≡ 195
+  pub holds : Outlook N (without .rest) last outlook
+  pub outlookLong : length outlook ≡ 195
   pub savedLong : length saved ≡ 3120
   pub few : size ≤ 15
 
--- the level is the set's own, and what changed is kept in row `size`
-pub record Entered (N : Network) (lists S : List ℕ) (size last : ℕ) (level level' saved saved' : List ℕ) : Type 0 where
-  pub levelLong : length level' ≡ 195
+-- the outlook is the set's own, and what changed is kept in row `size`
+pub record Entered (N : Network) (lists S : List ℕ) (size last : ℕ) (outlook outlook' saved saved' : List ℕ) : Type 0 where
+  pub outlookLong : length outlook' ≡ 195
   pub savedLong : length saved' ≡ 3120
-  pub own : Level N S (last + 1) level'
-  pub changed : Changed lists last (size * 195) 1 (many lists last + 1) level level' saved'
+  pub own : Outlook N S (last + 1) outlook'
+  pub changed : Changed lists last (size * 195) 1 (many lists last + 1) outlook outlook' saved'
   pub below : SameUpTo (size * 195) saved saved'

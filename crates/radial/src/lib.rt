@@ -34,7 +34,7 @@ pub fn open_line(net: &buffer::Net) -> u64
     requires { ⌜ Read (networkIn (now net)) ⌝ }
     ensures { λ r. ⌜ r ≡ firstOr 0 (bothOpen (networkIn (now (net .entry)))) (lineNumbers (networkIn (now (net .entry)))) ⌝ }
 {
-    for line in 1..buffer::lines(net) + 1 {
+    for line in 1..buffer::line_count(net) + 1 {
         if both_open(net, line) {
             return line as u64;
         }
@@ -75,7 +75,7 @@ pub fn plain_at_hv(net: &buffer::Net) -> u64
     requires { ⌜ Read (networkIn (now net)) ⌝ }
     ensures { λ r. ⌜ r ≡ firstOr 0 (unprotected (networkIn (now (net .entry)))) (lineNumbers (networkIn (now (net .entry)))) ⌝ }
 {
-    for line in 1..buffer::lines(net) + 1 {
+    for line in 1..buffer::line_count(net) + 1 {
         if is_unprotected(net, line) {
             return line as u64;
         }
@@ -123,7 +123,7 @@ pub fn path_returns(net: &buffer::Net, labels: &mut [u64; 512]) -> bool
     ensures { λ r. ⌜ (r ≡ false → Labelled (networkIn (now (net .entry))) (length (networkIn (now (net .entry)) .lines)) (now (labels .exit))) ⌝ }
 {
     number(labels);
-    for line in 1..buffer::lines(net) + 1 {
+    for line in 1..buffer::line_count(net) + 1 {
         if both_closed(net, line) {
             let x = labels[station_of(net, line, 1) - 1];
             let y = labels[station_of(net, line, 2) - 1];
@@ -151,7 +151,7 @@ pub fn hv_joined(net: &buffer::Net, labels: &[u64; 512]) -> bool
     ensures { λ r. ⌜ r ≡ someJoined (networkIn (now (net .entry))) ⌝ }
 {
     let mut marks = [0u64; 513];
-    for station in 1..buffer::stations(net) + 1 {
+    for station in 1..buffer::station_count(net) + 1 {
         if buffer::is_hv(net, station) {
             let x = label_of(labels, station);
             if marks[x] == 1 {
@@ -170,7 +170,7 @@ fn hv_labels(net: &buffer::Net, labels: &[u64; 512]) -> [u64; 513]
     ensures { λ r. ⌜ Marked (networkIn (now (net .entry))) (now (labels .entry)) (length (networkIn (now (net .entry)) .stations) + 1) r ⌝ }
 {
     let mut marks = [0u64; 513];
-    for station in 1..buffer::stations(net) + 1 {
+    for station in 1..buffer::station_count(net) + 1 {
         if buffer::is_hv(net, station) {
             let x = label_of(labels, station);
             marks[x] = 1;
@@ -186,7 +186,7 @@ pub fn unsupplied(net: &buffer::Net, labels: &[u64; 512]) -> u64
     ensures { λ r. ⌜ r ≡ firstOr 0 (λ s. not (isSupplied (networkIn (now (net .entry))) s)) (stationNumbers (networkIn (now (net .entry)))) ⌝ }
 {
     let marks = hv_labels(net, labels);
-    let stations = buffer::stations(net);
+    let stations = buffer::station_count(net);
     for station in 1..stations + 1 {
         let x = label_of(labels, station);
         if marks[x] != 1 {

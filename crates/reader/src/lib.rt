@@ -50,13 +50,13 @@ fn read_places(file: &[u8], from: usize, net: &mut Net) -> ReadAnswer
     ensures { λ r. ⌜ readSays r (now (net .exit)) ≡ withPlacesOf (networkIn (now (net .entry))) (recordsOf (drop from (now (file .entry)))) ⌝ }
 {
     network_changes::keep_places(net, 0);
-    let stations = buffer::stations(net) as u64;
-    let lines = buffer::lines(net) as u64;
+    let stations = buffer::station_count(net) as u64;
+    let lines = buffer::line_count(net) as u64;
     let mut before = [0u64; 4];
     let mut place = [0u64; 4];
     let mut at = from;
     while at < file.len() {
-        let n = buffer::places(net);
+        let n = buffer::place_count(net);
         let i = 2 + stations + lines + n as u64;
         let step = records::read_record(file, at, 3, i, stations, lines, &mut place);
         match step {
@@ -133,8 +133,8 @@ fn read_after_head(file: &[u8], from: usize, net: &mut Net) -> ReadAnswer
     requires { ⌜ (from ≤ length (now file)) × (length (networkIn (now net) .stations) ≤ 512) × (length (networkIn (now net) .lines) ≤ 768) ⌝ }
     ensures { λ r. ⌜ readSays r (now (net .exit)) ≡ readAfterHead (networkIn (now (net .entry)) .head) (recordsOf (drop from (now (file .entry)))) ⌝ }
 {
-    let stations = buffer::stations(net);
-    let lines = buffer::lines(net);
+    let stations = buffer::station_count(net);
+    let lines = buffer::line_count(net);
     let mut at = from;
     let step = read_stations(file, at, stations, lines, net);
     match step {

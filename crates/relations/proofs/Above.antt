@@ -90,7 +90,7 @@ module _ (N : Network) (a : Accepted N) where
   place-end p l s e f = λ k. placeOn N (firstPlace (placeEnds N) (onward N (record { line = e k; side = f k })))
 
   -- ── the first place on the path onward from an end, by the buffers ──
-  module _ (near feed marks firsts : List ℕ) (f : HoldsFeeders N near feed) (m : HoldsPlaces N marks) (h : HoldsFirsts N firsts) (l s : ℕ) (u : 1 ≤ l) (v : l ≤ length (N .lines)) where
+  module _ (near feeders marks firsts : List ℕ) (f : HoldsFeeders N near feeders) (m : HoldsPlaces N marks) (h : HoldsFirsts N firsts) (l s : ℕ) (u : 1 ≤ l) (v : l ≤ length (N .lines)) where
     near-is : getD near (l - 1) 0 ≡ nearEnd N l .side
     near-is = f .nears l u v
 
@@ -110,19 +110,19 @@ module _ (N : Network) (a : Accepted N) where
 
     -- the end is the near end
     module _ (e : s ≡ getD near (l - 1) 0) where
-      near-path : onward N (endIn l s) ≡ pathBeyond N (getD feed (l - 1) 0)
+      near-path : onward N (endIn l s) ≡ pathBeyond N (getD feeders (l - 1) 0)
       near-path =
           path-first
           ∙ ap (λ b. this b (pathBeyond N (feeder N l)) (nearEnd N l ∷ pathBeyond N (feeder N l))) (λ k. eq-eqb (nearEnd N l .line) l (near-own N a l u v .0) k && eq-eqb (nearEnd N l .side) s (sym (e ∙ near-is)) k)
           ∙ ap (pathBeyond N) (sym (f .feeds l u v))
 
-      pub above-hv : getD feed (l - 1) 0 ≡ 0 → 0 ≡ placeOn N (firstPlace (placeEnds N) (onward N (endIn l s)))
+      pub above-hv : getD feeders (l - 1) 0 ≡ 0 → 0 ≡ placeOn N (firstPlace (placeEnds N) (onward N (endIn l s)))
       unfolding firstOr
       above-hv z = sym (ap (λ es. placeOn N (firstPlace (placeEnds N) es)) (near-path ∙ ap (pathBeyond N) z) ∙ no-end-unplaced N (a .read) .0)
 
-      module _ (z : getD feed (l - 1) 0 ≢ 0) where
+      module _ (z : getD feeders (l - 1) 0 ≢ 0) where
         abbrev k : ℕ
-        k = getD feed (l - 1) 0
+        k = getD feeders (l - 1) 0
 
         feeder-low : 1 ≤ k
         feeder-low = omega (arith, z)

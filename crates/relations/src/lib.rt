@@ -13,46 +13,46 @@ ghost use Rattle.relations.specs.Climb.{isAbove, placeAbove, Among, Note
 // The next place above a place, the first that the path onward from it meets; 0 if there is none.
 fn above_of(
     net: &buffer::Net,
-    near: &[u64; 768],
-    feed: &[u64; 768],
+    sides: &[u64; 768],
+    feeders: &[u64; 768],
     marks: &[u64; 1537],
     firsts: &[u64; 768],
     place: usize,
 ) -> usize
-    requires { ⌜ Accepted (networkIn (now net)) × HoldsFeeders (networkIn (now net)) (now near) (now feed) × HoldsPlaces (networkIn (now net)) (now marks) × HoldsFirsts (networkIn (now net)) (now firsts) × Among (length (networkIn (now net) .places)) place ⌝ }
+    requires { ⌜ Accepted (networkIn (now net)) × HoldsFeeders (networkIn (now net)) (now sides) (now feeders) × HoldsPlaces (networkIn (now net)) (now marks) × HoldsFirsts (networkIn (now net)) (now firsts) × Among (length (networkIn (now net) .places)) place ⌝ }
     ensures { λ r. ⌜ r ≡ placeAbove (networkIn (now (net .entry))) place ⌝ }
 {
     let line = buffer::place_line(net, place);
-    if buffer::place_side(net, place) != near[line - 1] as usize {
+    if buffer::place_side(net, place) != sides[line - 1] as usize {
         return firsts[line - 1] as usize;
     }
-    let feeder = feed[line - 1] as usize;
+    let feeder = feeders[line - 1] as usize;
     if feeder == 0 {
         return 0;
     }
     // the feeder's far end
-    let code = 2 * feeder + 1 - near[feeder - 1] as usize;
+    let code = 2 * feeder + 1 - sides[feeder - 1] as usize;
     paths::first_from(marks, code, firsts[feeder - 1]) as usize
 }
 
 // The relations between a place and those above it: it is behind each of them, and each is on the path onward from it.
 fn climb(
     net: &buffer::Net,
-    near: &[u64; 768],
-    feed: &[u64; 768],
+    sides: &[u64; 768],
+    feeders: &[u64; 768],
     marks: &[u64; 1537],
     firsts: &[u64; 768],
     relations: &mut [u64; 4225],
     place: usize,
 )
-    requires { ⌜ Accepted (networkIn (now net)) × HoldsFeeders (networkIn (now net)) (now near) (now feed) × HoldsPlaces (networkIn (now net)) (now marks) × HoldsFirsts (networkIn (now net)) (now firsts) × Among (length (networkIn (now net) .places)) place × (length (now relations) ≡ 4225) ⌝ }
+    requires { ⌜ Accepted (networkIn (now net)) × HoldsFeeders (networkIn (now net)) (now sides) (now feeders) × HoldsPlaces (networkIn (now net)) (now marks) × HoldsFirsts (networkIn (now net)) (now firsts) × Among (length (networkIn (now net) .places)) place × (length (now relations) ≡ 4225) ⌝ }
     ensures { λ r. ⌜ Noted (length (networkIn (now (net .entry)) .places)) (λ q. isAbove (networkIn (now (net .entry))) q place) place (now (relations .entry)) (now (relations .exit)) × Kept (now (relations .entry)) (now (relations .exit)) × (length (now (relations .exit)) ≡ 4225) ⌝ }
 {
-    let mut above = above_of(net, near, feed, marks, firsts, place);
+    let mut above = above_of(net, sides, feeders, marks, firsts, place);
     while above != 0 {
         relations[above * 65 + place] = 1;
         relations[place * 65 + above] = 2;
-        above = above_of(net, near, feed, marks, firsts, above);
+        above = above_of(net, sides, feeders, marks, firsts, above);
     }
 }
 
@@ -66,18 +66,18 @@ fn no_relations(relations: &mut [u64; 4225])
 // How each place stands to each other.
 pub fn fill_relations(
     net: &buffer::Net,
-    near: &[u64; 768],
-    feed: &[u64; 768],
+    sides: &[u64; 768],
+    feeders: &[u64; 768],
     marks: &[u64; 1537],
     firsts: &[u64; 768],
     relations: &mut [u64; 4225],
 )
-    requires { ⌜ Accepted (networkIn (now net)) × HoldsFeeders (networkIn (now net)) (now near) (now feed) × HoldsPlaces (networkIn (now net)) (now marks) × HoldsFirsts (networkIn (now net)) (now firsts) ⌝ }
+    requires { ⌜ Accepted (networkIn (now net)) × HoldsFeeders (networkIn (now net)) (now sides) (now feeders) × HoldsPlaces (networkIn (now net)) (now marks) × HoldsFirsts (networkIn (now net)) (now firsts) ⌝ }
     ensures { λ r. ⌜ HoldsRelations (networkIn (now (net .entry))) (now (relations .exit)) × (length (now (relations .exit)) ≡ 4225) ⌝ }
 {
     no_relations(relations);
-    for place in 1..buffer::places(net) + 1 {
-        climb(net, near, feed, marks, firsts, relations, place);
+    for place in 1..buffer::place_count(net) + 1 {
+        climb(net, sides, feeders, marks, firsts, relations, place);
     }
 }
 

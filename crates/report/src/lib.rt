@@ -38,7 +38,7 @@ fn put_faults(net: &buffer::Net, impacts: &[u64; 768], buf: &mut [u8]) -> usize
     ensures { λ r. ⌜ (r ≡ length (flatMap (λ l. lineF (networkIn (now (net .entry))) l) (lineNumbers (networkIn (now (net .entry)))))) × (now (buf .exit) ≡ flatMap (λ l. lineF (networkIn (now (net .entry))) l) (lineNumbers (networkIn (now (net .entry)))) ++ drop (length (flatMap (λ l. lineF (networkIn (now (net .entry))) l) (lineNumbers (networkIn (now (net .entry)))))) (now (buf .entry))) × (r ≤ 23040) ⌝ }
 {
     let mut at: usize = 0;
-    for i in 0..buffer::lines(net) {
+    for i in 0..buffer::line_count(net) {
         at = at + put_fault(net, impacts, i + 1, &mut buf[at..]);
     }
     at

@@ -13,10 +13,10 @@ use Rattle.model.specs.Sets.{withBreakers, allowed, setTotal}
 use Rattle.model.specs.Walk.{Found}
 use Rattle.walks.specs.Runs.{on-true}
 use Rattle.theory.specs.Series.{series-rule, allowed-means}
-use Rattle.starts.specs.Level.{Level}
+use Rattle.starts.specs.Outlook.{Outlook}
 use Rattle.relations.specs.Lists.{many, Row, SameUpTo}
 use Rattle.prospects.specs.Changes.{Changed, Undone}
-use Rattle.prospects.specs.Chosen.{Before, Chosen, Levelled, Entering, Entered}
+use Rattle.prospects.specs.Chosen.{Before, Chosen, Pending, Entering, Entered}
 use Rattle.search.specs.Walking.{foundIn, visited, extended, tried, Counted, Standing, Trying, Next, Barren, Promising, Seeking, Sought, Extending, Left}
 use Rattle.search.specs.declared.Progress.{Progress}
 use Rattle.search.specs.declared.Current.{Current}
@@ -34,26 +34,26 @@ before-more : (q : ℕ) (S : List ℕ) → Before q S → 1 ≤ q → Before (q 
 before-more q [] b l = ((l, omega arith), tt)
 before-more q (p ∷ S) b l = ((b .0 .0, omega (arith, b .0 .1)), before-more q S (b .1) l)
 
--- The level as the walk came with it, where `by` is the last member, or the set's own, which can be undone.
+-- The outlook as the walk came with it, where `pending` is the last member, or the set's own, which can be undone.
 abbrev pub State : Network → List ℕ → List ℕ → List ℕ → ℕ → ℕ → ℕ → List ℕ → List ℕ → Type 0
-State N lists level₀ S size last by level saved =
-    ((by ≡ last) × (level ≡ level₀)) ⊎ ((by ≡ 0) × (1 ≤ last) × (size ≤ 15) × Level N S (last + 1) level × Changed lists last (size * 195) 1 (many lists last + 1) level₀ level saved)
+State N lists outlook₀ S size last pending outlook saved =
+    ((pending ≡ last) × (outlook ≡ outlook₀)) ⊎ ((pending ≡ 0) × (1 ≤ last) × (size ≤ 15) × Outlook N S (last + 1) outlook × Changed lists last (size * 195) 1 (many lists last + 1) outlook₀ outlook saved)
 
 -- The walk has come to a place: with the places from there on it finds what it finds with all of them.
-pub record Going (N : Network) (lists level₀ saved₀ set₀ : List ℕ) (at : Current) (from left : ℕ) (f₀ : Found) (place : ℕ) (p : Progress) (by : ℕ) (level saved set' best : List ℕ) : Type 0 where
+pub record Going (N : Network) (lists outlook₀ saved₀ set₀ : List ℕ) (at : Current) (from left : ℕ) (f₀ : Found) (place : ℕ) (p : Progress) (pending : ℕ) (outlook saved set' best : List ℕ) : Type 0 where
   pub low : from ≤ place
   pub within : place ≤ length (N .places) + 1
   pub counted : Counted N p
   pub bestLong : length best ≡ 16
   pub setLong : length set' ≡ 16
   pub setSame : take (at .size) set' ≡ take (at .size) set₀
-  pub levelLong : length level ≡ 195
+  pub outlookLong : length outlook ≡ 195
   pub savedLong : length saved ≡ 3120
   pub savedSame : SameUpTo (at .size * 195) saved₀ saved
-  pub state : State N lists level₀ (take (at .size) set₀) (at .size) (at .last) by level saved
+  pub state : State N lists outlook₀ (take (at .size) set₀) (at .size) (at .last) pending outlook saved
   pub same : extended N left (take (at .size) set₀) place (foundIn p best) ≡ extended N left (take (at .size) set₀) from f₀
 
-module _ {N : Network} {relations ends lists sums bounds level₀ saved₀ set₀ : List ℕ} {at : Current} {from left : ℕ} (x : Extending N relations ends lists sums bounds level₀ saved₀ set₀ at from left) where
+module _ {N : Network} {relations ends lists sums bounds outlook₀ saved₀ set₀ : List ℕ} {at : Current} {from left : ℕ} (x : Extending N relations ends lists sums bounds outlook₀ saved₀ set₀ at from left) where
   abbrev S : List ℕ
   S = take (at .size) set₀
 
@@ -67,13 +67,13 @@ module _ {N : Network} {relations ends lists sums bounds level₀ saved₀ set�
   row l = row-wide (omega (arith, places-few)) (x .related (at .last) l (x .standing .chosen .high) .row)
 
   -- a state stays while the rows after the set's own change
-  state-kept : {by : ℕ} {level level' saved saved' : List ℕ} → level' ≡ level → SameUpTo (at .size * 195 + 195) saved saved' → State N lists level₀ S (at .size) (at .last) by level saved
-      → State N lists level₀ S (at .size) (at .last) by level' saved'
+  state-kept : {pending : ℕ} {outlook outlook' saved saved' : List ℕ} → outlook' ≡ outlook → SameUpTo (at .size * 195 + 195) saved saved' → State N lists outlook₀ S (at .size) (at .last) pending outlook saved
+      → State N lists outlook₀ S (at .size) (at .last) pending outlook' saved'
   state-kept e u (inl s) = inl (s .0, e ∙ s .1)
   state-kept e u (inr s) = inr (s .0, s .1, s .2, rw e (s .3), rw e (changed-kept (row (s .1)) (omega arith) u (s .4)))
 
   pub going-first : (p : Progress) (best : List ℕ) → length best ≡ 16 → Counted N p
-      → Going N lists level₀ saved₀ set₀ at from left (foundIn p best) from p (at .last) level₀ saved₀ set₀ best
+      → Going N lists outlook₀ saved₀ set₀ at from left (foundIn p best) from p (at .last) outlook₀ saved₀ set₀ best
   going-first p best b k = record {
     low = omega arith;
     within = x .high;
@@ -81,39 +81,39 @@ module _ {N : Network} {relations ends lists sums bounds level₀ saved₀ set�
     bestLong = b;
     setLong = x .standing .setLong;
     setSame = refl;
-    levelLong = x .levelLong;
+    outlookLong = x .outlookLong;
     savedLong = x .savedLong;
     savedSame = λ k h. refl;
     state = inl (refl, refl);
     same = refl;
   }
 
-  module _ {f₀ : Found} {place : ℕ} {p : Progress} {by : ℕ} {level saved set' best : List ℕ} (g : Going N lists level₀ saved₀ set₀ at from left f₀ place p by level saved set' best) where
+  module _ {f₀ : Found} {place : ℕ} {p : Progress} {pending : ℕ} {outlook saved set' best : List ℕ} (g : Going N lists outlook₀ saved₀ set₀ at from left f₀ place p pending outlook saved set' best) where
     abbrev f : Found
     f = foundIn p best
 
     pub low : 1 ≤ place
     low = omega (arith, x .low, g .low)
 
-    -- where the walk goes no further and the level is as it came, it leaves what it has found
-    stopped : {level' : List ℕ} → level' ≡ level₀ → Barren N (p .spent) (p .best .0) (at .total .0) place left → Left N (extended N left S from f₀) (at .size) p level₀ level' saved₀ saved set₀ set' best
+    -- where the walk goes no further and the outlook is as it came, it leaves what it has found
+    stopped : {outlook' : List ℕ} → outlook' ≡ outlook₀ → Barren N (p .spent) (p .best .0) (at .total .0) place left → Left N (extended N left S from f₀) (at .size) p outlook₀ outlook' saved₀ saved set₀ set' best
     stopped e b = record {
       found = sym (barren N S left place f (subst (λ m. Barren N (p .spent) (p .best .0) m place left) (x .standing .total) b)) ∙ g .same;
       counted = g .counted;
       bestLong = g .bestLong;
       setLong = g .setLong;
       setSame = g .setSame;
-      levelSame = e;
+      outlookSame = e;
       savedLong = g .savedLong;
       savedSame = g .savedSame;
     }
 
-    pub stopped-same : by ≡ at .last → Barren N (p .spent) (p .best .0) (at .total .0) place left → Left N (extended N left S from f₀) (at .size) p level₀ level saved₀ saved set₀ set' best
+    pub stopped-same : pending ≡ at .last → Barren N (p .spent) (p .best .0) (at .total .0) place left → Left N (extended N left S from f₀) (at .size) p outlook₀ outlook saved₀ saved set₀ set' best
     stopped-same e = stopped (⊎-elim (λ s. s .1) (λ s. absurd (omega (arith, s .0, s .1))) (g .state))
 
-    -- the level is the set's own, and its changes are undone
-    module _ (n : by ≡ at .last → ⊥) where
-      entered : (1 ≤ at .last) × (at .size ≤ 15) × Changed lists (at .last) (at .size * 195) 1 (many lists (at .last) + 1) level₀ level saved
+    -- the outlook is the set's own, and its changes are undone
+    module _ (n : pending ≡ at .last → ⊥) where
+      entered : (1 ≤ at .last) × (at .size ≤ 15) × Changed lists (at .last) (at .size * 195) 1 (many lists (at .last) + 1) outlook₀ outlook saved
       entered = ⊎-elim (λ s. absurd (n (s .0))) (λ s. (s .1, s .2, s .4)) (g .state)
 
       pub left-few : at .size ≤ 15
@@ -122,22 +122,22 @@ module _ {N : Network} {relations ends lists sums bounds level₀ saved₀ set�
       pub left-row : Row lists (at .last) (many lists (at .last)) 65
       left-row = row (entered .0)
 
-      pub stopped-undone : {level' : List ℕ} → Undone lists (at .last) (at .size * 195) (many lists (at .last) + 1) saved level level' → Barren N (p .spent) (p .best .0) (at .total .0) place left
-          → Left N (extended N left S from f₀) (at .size) p level₀ level' saved₀ saved set₀ set' best
-      stopped-undone u = stopped (u level₀ (x .levelLong) (entered .2))
+      pub stopped-undone : {outlook' : List ℕ} → Undone lists (at .last) (at .size * 195) (many lists (at .last) + 1) saved outlook outlook' → Barren N (p .spent) (p .best .0) (at .total .0) place left
+          → Left N (extended N left S from f₀) (at .size) p outlook₀ outlook' saved₀ saved set₀ set' best
+      stopped-undone u = stopped (u outlook₀ (x .outlookLong) (entered .2))
 
-    -- the set is read from the level
-    levelled : Levelled N level S (at .last) by
-    levelled = ⊎-elim (λ s. rw (s .0, s .1) (x .standing .levelled)) (λ s. inl (s .0, s .3)) (g .state)
+    -- the set is read from the outlook
+    is-pending : Pending N outlook S (at .last) pending
+    is-pending = ⊎-elim (λ s. rw (s .0, s .1) (x .standing .is-pending)) (λ s. inl (s .0, s .3)) (g .state)
 
     abbrev S' : List ℕ
     S' = take (at .size) set'
 
-    standing : Standing N relations level set' at by
+    standing : Standing N relations outlook set' at pending
     standing = record {
       setLong = g .setLong;
       chosen = rw (g .setSame) (x .standing .chosen);
-      levelled = rw (g .setSame) levelled;
+      is-pending = rw (g .setSame) is-pending;
       total = x .standing .total ∙ ap (setTotal N) (sym (g .setSame));
       cost = rw (g .setSame) (x .standing .cost);
       hours = rw (g .setSame) (x .standing .hours);
@@ -146,11 +146,11 @@ module _ {N : Network} {relations ends lists sums bounds level₀ saved₀ set�
     }
 
     -- the next place is sought from here on
-    pub seeking : Seeking N relations bounds level set' at by place left p
+    pub seeking : Seeking N relations bounds outlook set' at pending place left p
     seeking = record { standing = standing; table = x .table; counted = g .counted; low = omega (arith, x .low, g .low); high = g .within; few = x .few }
 
     -- and the walk has come to it
-    pub going-sought : {next : ℕ} → Sought N S' (at .total .0) place left p next → Going N lists level₀ saved₀ set₀ at from left f₀ next p by level saved set' best
+    pub going-sought : {next : ℕ} → Sought N S' (at .total .0) place left p next → Going N lists outlook₀ saved₀ set₀ at from left f₀ next p pending outlook saved set' best
     going-sought {next} s = record {
       low = omega (arith, g .low, s .low);
       within = s .high;
@@ -158,7 +158,7 @@ module _ {N : Network} {relations ends lists sums bounds level₀ saved₀ set�
       bestLong = g .bestLong;
       setLong = g .setLong;
       setSame = g .setSame;
-      levelLong = g .levelLong;
+      outlookLong = g .outlookLong;
       savedLong = g .savedLong;
       savedSame = g .savedSame;
       state = g .state;
@@ -167,7 +167,7 @@ module _ {N : Network} {relations ends lists sums bounds level₀ saved₀ set�
 
     module _ (h : Promising N (p .spent) (p .best .0) (at .total .0) place left) where
       -- the place is tried
-      pub trying : Trying N relations level set' at by place
+      pub trying : Trying N relations outlook set' at pending place
       trying = record { standing = standing; low = omega (arith, x .low, g .low); high = h .high; few = omega (arith, x .few, h .some) }
 
       abbrev T : List ℕ
@@ -193,7 +193,7 @@ module _ {N : Network} {relations ends lists sums bounds level₀ saved₀ set�
 
       -- and the walk goes on with the next
       abbrev On : Progress → ℕ → List ℕ → List ℕ → List ℕ → List ℕ → Type 0
-      On q by₂ level₂ saved₂ set₂ best₂ = Going N lists level₀ saved₀ set₀ at from left f₀ (place + 1) q by₂ level₂ saved₂ set₂ best₂
+      On q pending₂ outlook₂ saved₂ set₂ best₂ = Going N lists outlook₀ saved₀ set₀ at from left f₀ (place + 1) q pending₂ outlook₂ saved₂ set₂ best₂
 
       tried-is : extended N left S (place + 1) (tried N (left - 1) S' place f) ≡ extended N left S from f₀
       tried-is =
@@ -209,7 +209,7 @@ module _ {N : Network} {relations ends lists sums bounds level₀ saved₀ set�
         tried-allowed = ap (extended N (left - 1) T (place + 1)) (v ∙ ap (λ U. visited N U f) set⁺-is) ∙ sym (on-true _ _ b)
 
         -- and not extended
-        pub on-barren : Barren N (q .spent) (q .best .0) (next .total .0) (place + 1) (left - 1) → On q by level saved set⁺ best₁
+        pub on-barren : Barren N (q .spent) (q .best .0) (next .total .0) (place + 1) (left - 1) → On q pending outlook saved set⁺ best₁
         on-barren r = record {
           low = omega (arith, g .low);
           within = omega (arith, h .high);
@@ -217,7 +217,7 @@ module _ {N : Network} {relations ends lists sums bounds level₀ saved₀ set�
           bestLong = long;
           setLong = set⁺-long;
           setSame = set⁺-same ∙ g .setSame;
-          levelLong = g .levelLong;
+          outlookLong = g .outlookLong;
           savedLong = g .savedLong;
           savedSame = g .savedSame;
           state = g .state;
@@ -231,8 +231,8 @@ module _ {N : Network} {relations ends lists sums bounds level₀ saved₀ set�
         U-is : take (at .size) set⁺ ≡ S
         U-is = set⁺-same ∙ g .setSame
 
-        -- the set gets its own level, if it has none
-        pub entering : (by ≡ 0 → ⊥) → Entering N relations ends lists level saved (take (at .size) set⁺) (at .size) by
+        -- the set gets its own outlook, if it has none
+        pub entering : (pending ≡ 0 → ⊥) → Entering N relations ends lists outlook saved (take (at .size) set⁺) (at .size) pending
         entering d = ⊎-elim
             (λ s. absurd (d (s .0)))
             (λ s. rw (U-is, s .0) (record {
@@ -241,33 +241,33 @@ module _ {N : Network} {relations ends lists sums bounds level₀ saved₀ set�
               related = x .related;
               without = s .1;
               holds = s .2;
-              levelLong = g .levelLong;
+              outlookLong = g .outlookLong;
               savedLong = g .savedLong;
               few = omega (arith, room);
             }))
-            levelled
+            is-pending
 
         -- it has it
-        module _ {level₁ saved₁ : List ℕ}
-            (d : ((by ≡ 0) × (level₁ ≡ level) × (saved₁ ≡ saved)) ⊎ ((by ≡ 0 → ⊥) × Entered N lists (take (at .size) set⁺) (at .size) by level level₁ saved saved₁)) where
+        module _ {outlook₁ saved₁ : List ℕ}
+            (d : ((pending ≡ 0) × (outlook₁ ≡ outlook) × (saved₁ ≡ saved)) ⊎ ((pending ≡ 0 → ⊥) × Entered N lists (take (at .size) set⁺) (at .size) pending outlook outlook₁ saved saved₁)) where
           abbrev Own : Type 0
-          Own = (length level₁ ≡ 195) × (length saved₁ ≡ 3120) × Level N S (at .last + 1) level₁ × SameUpTo (at .size * 195) saved₀ saved₁ × State N lists level₀ S (at .size) (at .last) 0 level₁ saved₁
+          Own = (length outlook₁ ≡ 195) × (length saved₁ ≡ 3120) × Outlook N S (at .last + 1) outlook₁ × SameUpTo (at .size * 195) saved₀ saved₁ × State N lists outlook₀ S (at .size) (at .last) 0 outlook₁ saved₁
 
           -- it had it already
-          had : (by ≡ 0) × (level₁ ≡ level) × (saved₁ ≡ saved) → Own
+          had : (pending ≡ 0) × (outlook₁ ≡ outlook) × (saved₁ ≡ saved) → Own
           had s = rw (s .1, s .2) (
-            g .levelLong,
+            g .outlookLong,
             g .savedLong,
-            ⊎-elim (λ t. t .1) (λ t. absurd (omega (arith, s .0, t .0, t .1 .low))) levelled,
+            ⊎-elim (λ t. t .1) (λ t. absurd (omega (arith, s .0, t .0, t .1 .low))) is-pending,
             g .savedSame,
-            subst (λ b. State N lists level₀ S (at .size) (at .last) b level saved) (s .0) (g .state),
+            subst (λ b. State N lists outlook₀ S (at .size) (at .last) b outlook saved) (s .0) (g .state),
           )
 
-          got : (by ≡ 0 → ⊥) × Entered N lists (take (at .size) set⁺) (at .size) by level level₁ saved saved₁ → Own
+          got : (pending ≡ 0 → ⊥) × Entered N lists (take (at .size) set⁺) (at .size) pending outlook outlook₁ saved saved₁ → Own
           got s = ⊎-elim
               (λ t.
-              let e = subst (λ l. Entered N lists S (at .size) (at .last) l level₁ saved saved₁) (t .1) (subst (λ b. Entered N lists S (at .size) b level level₁ saved saved₁) (t .0) (subst (λ U. Entered N lists U (at .size) by level level₁ saved saved₁) U-is (s .1))) in
-              (e .levelLong, e .savedLong, e .own, λ k l. e .below k l ∙ g .savedSame k l, inr (refl, omega (arith, t .0, s .0), omega (arith, room), e .own, e .changed)))
+              let e = subst (λ l. Entered N lists S (at .size) (at .last) l outlook₁ saved saved₁) (t .1) (subst (λ b. Entered N lists S (at .size) b outlook outlook₁ saved saved₁) (t .0) (subst (λ U. Entered N lists U (at .size) pending outlook outlook₁ saved saved₁) U-is (s .1))) in
+              (e .outlookLong, e .savedLong, e .own, λ k l. e .below k l ∙ g .savedSame k l, inr (refl, omega (arith, t .0, s .0), omega (arith, room), e .own, e .changed)))
               (λ t. absurd (s .0 (t .0)))
               (g .state)
 
@@ -290,7 +290,7 @@ module _ {N : Network} {relations ends lists sums bounds level₀ saved₀ set�
           }
 
           -- the set with the place is extended
-          pub extending : Extending N relations ends lists sums bounds level₁ saved₁ set⁺ next (place + 1) (left - 1)
+          pub extending : Extending N relations ends lists sums bounds outlook₁ saved₁ set⁺ next (place + 1) (left - 1)
           extending = record {
             coded = x .coded;
             related = x .related;
@@ -299,34 +299,34 @@ module _ {N : Network} {relations ends lists sums bounds level₀ saved₀ set�
             standing = record {
               setLong = set⁺-long;
               chosen = rw (next-is, n .last) chosen;
-              levelled = rw (next-is, n .last) (inr (refl, record { rest = S'; low = low; is = refl; before = before }, rw (g .setSame) (λ p a b. own .2 p (omega (arith, trying .low)) b)));
+              is-pending = rw (next-is, n .last) (inr (refl, record { rest = S'; low = low; is = refl; before = before }, rw (g .setSame) (λ p a b. own .2 p (omega (arith, trying .low)) b)));
               total = n .total ∙ ap (setTotal N) (sym next-is);
               cost = rw next-is (n .cost);
               hours = rw next-is (n .hours);
               affordable = omega (arith, n .cost, allowed-means N T .0 b .money);
               timely = omega (arith, n .hours, allowed-means N T .0 b .hours);
             };
-            levelLong = own .0;
+            outlookLong = own .0;
             savedLong = own .1;
             low = omega (arith, n .last);
             high = omega (arith, h .high);
             few = omega (arith, n .size, x .few, some);
           }
 
-          pub on-extended : (q₂ : Progress) (level₂ saved₂ set₂ best₂ : List ℕ)
-              → Left N (extended N (left - 1) (take (next .size) set⁺) (place + 1) (foundIn q best₁)) (next .size) q₂ level₁ level₂ saved₁ saved₂ set⁺ set₂ best₂
-              → On q₂ 0 level₂ saved₂ set₂ best₂
-          on-extended q₂ level₂ saved₂ set₂ best₂ r = record {
+          pub on-extended : (q₂ : Progress) (outlook₂ saved₂ set₂ best₂ : List ℕ)
+              → Left N (extended N (left - 1) (take (next .size) set⁺) (place + 1) (foundIn q best₁)) (next .size) q₂ outlook₁ outlook₂ saved₁ saved₂ set⁺ set₂ best₂
+              → On q₂ 0 outlook₂ saved₂ set₂ best₂
+          on-extended q₂ outlook₂ saved₂ set₂ best₂ r = record {
             low = omega (arith, g .low);
             within = omega (arith, h .high);
             counted = r .counted;
             bestLong = r .bestLong;
             setLong = r .setLong;
             setSame = shorter set₂ set⁺ (at .size) (next .size) (omega (arith, n .size)) (r .setSame) ∙ set⁺-same ∙ g .setSame;
-            levelLong = ap length (r .levelSame) ∙ own .0;
+            outlookLong = ap length (r .outlookSame) ∙ own .0;
             savedLong = r .savedLong;
             savedSame = λ k l. r .savedSame k (omega (arith, n .size)) ∙ own .3 k l;
-            state = state-kept (r .levelSame) (λ k l. r .savedSame k (omega (arith, n .size))) (own .4);
+            state = state-kept (r .outlookSame) (λ k l. r .savedSame k (omega (arith, n .size))) (own .4);
             same =
                 ap (extended N left S (place + 1)) (r .found ∙ ap (λ U. extended N (left - 1) U (place + 1) (foundIn q best₁)) next-is ∙ tried-allowed)
                 ∙ tried-is;

@@ -25,7 +25,7 @@ pub record Passed (N : Network) (S : List ℕ) (from left : ℕ) (p : Progress) 
   pub high : place ≤ length (N .places) + 1
   pub same : (f : Found) → f .spent ≡ p .spent → f .best ≡ p .best .0 → extended N left S place f ≡ extended N left S from f
 
-module _ {N : Network} {relations bounds level set : List ℕ} {at : Current} {by from left : ℕ} {p : Progress} (x : Seeking N relations bounds level set at by from left p) where
+module _ {N : Network} {relations bounds outlook set : List ℕ} {at : Current} {pending from left : ℕ} {p : Progress} (x : Seeking N relations bounds outlook set at pending from left p) where
   abbrev S : List ℕ
   S = take (at .size) set
 
@@ -40,7 +40,7 @@ module _ {N : Network} {relations bounds level set : List ℕ} {at : Current} {b
     positive = omega (arith, x .low, g .low)
 
     module _ (h : Promising N (p .spent) (p .best .0) (at .total .0) place left) where
-      pub trying : Trying N relations level set at by place
+      pub trying : Trying N relations outlook set at pending place
       trying = record { standing = x .standing; low = omega (arith, x .low, g .low); high = h .high; few = omega (arith, x .few, h .some) }
 
       -- a place that the set may not get

@@ -16,7 +16,7 @@ use Rattle.search.specs.Walking.{foundIn, visited, extended, Counted, Ex
 use Rattle.search.specs.declared.Progress.{Progress}
 use Rattle.prospects.proofs.Saving.{chosen-none}
 
-module _ {N : Network} {relations ends lists sums bounds level saved set₀ best : List ℕ} (t : Total) (x : Starting N relations ends lists sums bounds level saved set₀ best (t .0)) where
+module _ {N : Network} {relations ends lists sums bounds outlook saved set₀ best : List ℕ} (t : Total) (x : Starting N relations ends lists sums bounds outlook saved set₀ best (t .0)) where
   abbrev first : Progress
   first = record { best = t; count = 0; visits = 0; spent = false }
 
@@ -33,7 +33,7 @@ module _ {N : Network} {relations ends lists sums bounds level saved set₀ best
   }
 
   module _ (adds : ℕ) (e : N .head .adds ≡ adds) where
-    pub extending-none : Extending N relations ends lists sums bounds level saved set₀ (record { size = 0; last = 0; total = t; cost = 0; hours = 0 }) 1 adds
+    pub extending-none : Extending N relations ends lists sums bounds outlook saved set₀ (record { size = 0; last = 0; total = t; cost = 0; hours = 0 }) 1 adds
     unfolding sum
     extending-none = record {
       coded = x .tables .coded;
@@ -43,14 +43,14 @@ module _ {N : Network} {relations ends lists sums bounds level saved set₀ best
       standing = record {
         setLong = x .setLong;
         chosen = chosen-none N relations (x .tables .accepted) (x .tables .related);
-        levelled = inl (refl, x .holds);
+        is-pending = inl (refl, x .holds);
         total = total-none;
         cost = refl;
         hours = refl;
         affordable = omega arith;
         timely = omega arith;
       };
-      levelLong = x .levelLong;
+      outlookLong = x .outlookLong;
       savedLong = x .savedLong;
       low = omega arith;
       high = omega arith;

@@ -15,12 +15,12 @@ use Rattle.model.specs.Sets.{placeAt, withBreakers, allowed}
 use Rattle.savings.specs.Allowed.{sum-append}
 use Rattle.savings.specs.Breakers.{endAt}
 use Rattle.theory.specs.Reading.{Read}
-use Rattle.sets.specs.Sets.{worstAt, set-series}
+use Rattle.sets.specs.Sets.{inSeriesAt, set-series}
 use Rattle.prospects.specs.Chosen.{Later}
 use Rattle.search.specs.Walking.{Trying}
 use Rattle.search.specs.declared.Current.{Current}
-use Rattle.prospects.proofs.Nearby.{end-closed}
-use Rattle.prospects.proofs.Levels.{chosen-valid, later-of}
+use Rattle.prospects.proofs.Upstream.{end-closed}
+use Rattle.prospects.proofs.Outlooks.{chosen-valid, later-of}
 use Rattle.prospects.proofs.Falling.{free}
 
 one-more : (f : ℕ → ℕ) (S : List ℕ) (q : ℕ) → sum (map f (S ++ (q ∷ []))) ≡ sum (map f S) + f q
@@ -35,7 +35,7 @@ and-true : (b : Bool) → (b && true) ≡ b
 and-true true = refl
 and-true false = refl
 
-module _ {N : Network} {relations level set : List ℕ} {at : Current} {by q : ℕ} (x : Trying N relations level set at by q) where
+module _ {N : Network} {relations outlook set : List ℕ} {at : Current} {pending q : ℕ} (x : Trying N relations outlook set at pending q) where
   abbrev S : List ℕ
   S = take (at .size) set
 
@@ -45,8 +45,8 @@ module _ {N : Network} {relations level set : List ℕ} {at : Current} {by q : �
   read : Read N
   read = x .standing .chosen .accepted .read
 
-  pub later : Later N relations level S by q
-  later = later-of (x .standing .chosen) (x .standing .levelled) q (x .low) (x .high)
+  pub later : Later N relations outlook S pending q
+  later = later-of (x .standing .chosen) (x .standing .is-pending) q (x .low) (x .high)
 
   pub cost-with : {cost : ℕ} → cost ≡ at .cost + placeAt N q .cost → cost ≡ sum (map (λ p. placeAt N p .cost) T)
   cost-with c = omega (arith, c, x .standing .cost, one-more (λ p. placeAt N p .cost) S q)
@@ -66,15 +66,15 @@ module _ {N : Network} {relations level set : List ℕ} {at : Current} {by q : �
         λ i. few i && leb (sym (cost-with c) i) (N .head .money) && leb (sym (hours-with h) i) (N .head .hours) && not (seriesBroken (withBreakers N T))
 
   -- the series rule
-  module _ {worst : ℕ} (w : worst ≡ worstAt N S (endAt N q)) where
-    both-ways : (seriesBroken (withBreakers N T) ≡ false → worst < N .head .series) × (worst < N .head .series → seriesBroken (withBreakers N T) ≡ false)
+  module _ {in-series : ℕ} (w : in-series ≡ inSeriesAt N S (endAt N q)) where
+    both-ways : (seriesBroken (withBreakers N T) ≡ false → in-series < N .head .series) × (in-series < N .head .series → seriesBroken (withBreakers N T) ≡ false)
     both-ways =
         let k = x .standing .chosen in
         let s = set-series N read (k .accepted .rules) S (chosen-valid k) q (end-closed N (k .accepted) q (omega (arith, x .low)) (x .high)) (free later) in
         (λ b. omega (arith, s .0 b .1, w), λ l. s .1 (k .series, omega (arith, l, w)))
 
     -- it is broken
-    pub too-many : N .head .series ≤ worst → false ≡ allowed N T
+    pub too-many : N .head .series ≤ in-series → false ≡ allowed N T
     too-many l = go (seriesBroken (withBreakers N T)) refl
       where
         means : Bool
@@ -85,6 +85,6 @@ module _ {N : Network} {relations level set : List ℕ} {at : Current} {by q : �
         go false b = absurd (omega (arith, both-ways .0 b))
 
     -- it is kept, and the money and the hours decide
-    pub few-enough : {cost hours : ℕ} (c : cost ≡ at .cost + placeAt N q .cost) (h : hours ≡ at .hours + placeAt N q .hours) → worst < N .head .series
+    pub few-enough : {cost hours : ℕ} (c : cost ≡ at .cost + placeAt N q .cost) (h : hours ≡ at .hours + placeAt N q .hours) → in-series < N .head .series
         → (leb cost (N .head .money) && leb hours (N .head .hours)) ≡ allowed N T
     few-enough c h l = sym (allowed-is c h ∙ ap (λ b. affordable c h && not b) (both-ways .1 l) ∙ and-true (affordable c h))

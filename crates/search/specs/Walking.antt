@@ -12,10 +12,10 @@ use Rattle.model.specs.Sets.{placeAt, allowed, setTotal, saving}
 use Rattle.model.specs.Walk.{Found, visit, extend}
 use Rattle.outage.specs.Held.{HoldsCustomers}
 use Rattle.paths.specs.Held.{HoldsEnds}
-use Rattle.starts.specs.Level.{Level}
+use Rattle.starts.specs.Outlook.{Outlook}
 use Rattle.relations.specs.Lists.{HoldsLists, SameUpTo}
 use Rattle.bounds.specs.Bounds.{placesFrom, mostSaved, HoldsBounds}
-use Rattle.prospects.specs.Chosen.{Chosen, Levelled, Tables}
+use Rattle.prospects.specs.Chosen.{Chosen, Pending, Tables}
 use Rattle.search.specs.declared.Progress.{Progress}
 use Rattle.search.specs.declared.Current.{Current}
 
@@ -44,10 +44,10 @@ pub record Counted (N : Network) (p : Progress) : Type 0 where
   pub limit : N .head .visits ≤ 1000000000
 
 -- the set that the walk stands at
-pub record Standing (N : Network) (relations level set : List ℕ) (at : Current) (by : ℕ) : Type 0 where
+pub record Standing (N : Network) (relations outlook set : List ℕ) (at : Current) (pending : ℕ) : Type 0 where
   pub setLong : length set ≡ 16
   pub chosen : Chosen N relations (take (at .size) set) (at .last)
-  pub levelled : Levelled N level (take (at .size) set) (at .last) by
+  pub is-pending : Pending N outlook (take (at .size) set) (at .last) pending
   pub total : at .total .0 ≡ setTotal N (take (at .size) set)
   pub cost : at .cost ≡ sum (map (λ p. placeAt N p .cost) (take (at .size) set))
   pub hours : at .hours ≡ sum (map (λ p. placeAt N p .hours) (take (at .size) set))
@@ -55,8 +55,8 @@ pub record Standing (N : Network) (relations level set : List ℕ) (at : Current
   pub timely : at .hours ≤ N .head .hours
 
 -- the set may get one more place
-pub record Trying (N : Network) (relations level set : List ℕ) (at : Current) (by place : ℕ) : Type 0 where
-  pub standing : Standing N relations level set at by
+pub record Trying (N : Network) (relations outlook set : List ℕ) (at : Current) (pending place : ℕ) : Type 0 where
+  pub standing : Standing N relations outlook set at pending
   pub low : at .last < place
   pub high : place ≤ length (N .places)
   pub few : at .size + 1 ≤ N .head .adds
@@ -81,8 +81,8 @@ pub record Promising (N : Network) (spent : Bool) (best total from left : ℕ) :
   pub hope : total < best + mostSaved N left from
 
 -- the set may get `left` more, and the places from `from` on are tried
-pub record Seeking (N : Network) (relations bounds level set : List ℕ) (at : Current) (by from left : ℕ) (p : Progress) : Type 0 where
-  pub standing : Standing N relations level set at by
+pub record Seeking (N : Network) (relations bounds outlook set : List ℕ) (at : Current) (pending from left : ℕ) (p : Progress) : Type 0 where
+  pub standing : Standing N relations outlook set at pending
   pub table : HoldsBounds N bounds
   pub counted : Counted N p
   pub low : at .last < from
@@ -97,36 +97,36 @@ pub record Sought (N : Network) (S : List ℕ) (total from left : ℕ) (p : Prog
   pub fitting : Promising N (p .spent) (p .best .0) total next left → allowed N (S ++ (next ∷ [])) ≡ true
 
 -- the set may get `left` more of the places from `from` on
-pub record Extending (N : Network) (relations ends lists sums bounds level saved set : List ℕ) (at : Current) (from left : ℕ) : Type 0 where
+pub record Extending (N : Network) (relations ends lists sums bounds outlook saved set : List ℕ) (at : Current) (from left : ℕ) : Type 0 where
   pub coded : HoldsEnds N ends
   pub related : HoldsLists relations lists (length (N .places))
   pub behind : HoldsCustomers N sums
   pub table : HoldsBounds N bounds
-  pub standing : Standing N relations level set at (at .last)
-  pub levelLong : length level ≡ 195
+  pub standing : Standing N relations outlook set at (at .last)
+  pub outlookLong : length outlook ≡ 195
   pub savedLong : length saved ≡ 3120
   pub low : at .last < from
   pub high : from ≤ length (N .places) + 1
   pub few : at .size + left ≡ N .head .adds
 
--- what a walk leaves: what it found, and the set, the level and the rows before the set's own as they were
-pub record Left (N : Network) (f : Found) (size : ℕ) (p : Progress) (level level' saved saved' set set' best' : List ℕ) : Type 0 where
+-- what a walk leaves: what it found, and the set, the outlook and the rows before the set's own as they were
+pub record Left (N : Network) (f : Found) (size : ℕ) (p : Progress) (outlook outlook' saved saved' set set' best' : List ℕ) : Type 0 where
   pub found : foundIn p best' ≡ f
   pub counted : Counted N p
   pub bestLong : length best' ≡ 16
   pub setLong : length set' ≡ 16
   pub setSame : take size set' ≡ take size set
-  pub levelSame : level' ≡ level
+  pub outlookSame : outlook' ≡ outlook
   pub savedLong : length saved' ≡ 3120
   pub savedSame : SameUpTo (size * 195) saved saved'
 
 -- before the walk
-pub record Starting (N : Network) (relations ends lists sums bounds level saved set best : List ℕ) (whole : ℕ) : Type 0 where
+pub record Starting (N : Network) (relations ends lists sums bounds outlook saved set best : List ℕ) (whole : ℕ) : Type 0 where
   pub tables : Tables N relations ends sums
   pub related : HoldsLists relations lists (length (N .places))
   pub table : HoldsBounds N bounds
-  pub holds : Level N [] 1 level
-  pub levelLong : length level ≡ 195
+  pub holds : Outlook N [] 1 outlook
+  pub outlookLong : length outlook ≡ 195
   pub savedLong : length saved ≡ 3120
   pub setLong : length set ≡ 16
   pub bestLong : length best ≡ 16

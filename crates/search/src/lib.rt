@@ -1,5 +1,6 @@
 // The search: a walk over sets of places.
-// Where a function takes `by`, that is the set's last member if the level is still without it, and 0 if the level is the set's own.
+// Where a function takes `pending`, that is the set's last member if the outlook is still without it, and 0 if the outlook is the
+// set's own.
 ghost use mathlib.Core.Path.{_≡_};
 ghost use mathlib.Core.Bool.{true, false, _&&_};
 ghost use mathlib.Core.List.{[], _∷_, _++_};
@@ -111,17 +112,25 @@ fn hours_with(net: &buffer::Net, current: Current, place: usize) -> u64
 fn may_get(
     net: &buffer::Net,
     relations: &[u64; 4225],
-    level: &[u64; 195],
+    outlook: &[u64; 195],
     set: &[u64; 16],
     current: Current,
-    by: usize,
+    pending: usize,
     place: usize,
 ) -> bool
-    requires { ⌜ Trying (networkIn (now net)) (now relations) (now level) (now set) current by place ⌝ }
+    requires { ⌜ Trying (networkIn (now net)) (now relations) (now outlook) (now set) current pending place ⌝ }
     ensures { λ r. ⌜ r ≡ allowed (networkIn (now (net .entry))) (take (current .size) (now (set .entry)) ++ (place ∷ [])) ⌝ }
 {
-    let worst = prospects::worst_of(net, relations, level, set, current.size, by, place);
-    if buffer::series(net) <= worst {
+    let in_series = prospects::in_series_of(
+        net,
+        relations,
+        outlook,
+        set,
+        current.size,
+        pending,
+        place,
+    );
+    if buffer::series(net) <= in_series {
         return false;
     }
     let cost = cost_with(net, current, place);
@@ -135,17 +144,27 @@ fn with_place(
     relations: &[u64; 4225],
     ends: &[u64; 65],
     sums: &[u64; 768],
-    level: &[u64; 195],
+    outlook: &[u64; 195],
     set: &[u64; 16],
     current: Current,
-    by: usize,
+    pending: usize,
     place: usize,
 ) -> Current
-    requires { ⌜ Trying (networkIn (now net)) (now relations) (now level) (now set) current by place × HoldsEnds (networkIn (now net)) (now ends) × HoldsCustomers (networkIn (now net)) (now sums) ⌝ }
+    requires { ⌜ Trying (networkIn (now net)) (now relations) (now outlook) (now set) current pending place × HoldsEnds (networkIn (now net)) (now ends) × HoldsCustomers (networkIn (now net)) (now sums) ⌝ }
     ensures { λ r. ⌜ Next (networkIn (now (net .entry))) (now (set .entry)) current place r ⌝ }
 {
     let size = current.size;
-    let spared = prospects::fall(net, relations, ends, sums, level, set, size, by, place);
+    let spared = prospects::fall(
+        net,
+        relations,
+        ends,
+        sums,
+        outlook,
+        set,
+        size,
+        pending,
+        place,
+    );
     Current {
         size: size + 1,
         last: place,
@@ -171,7 +190,7 @@ fn goes_on(
     if left == 0 {
         return false;
     }
-    if buffer::places(net) < from {
+    if buffer::place_count(net) < from {
         return false;
     }
     if found.spent {
@@ -200,20 +219,20 @@ fn next_place(
     net: &buffer::Net,
     relations: &[u64; 4225],
     bounds: &[u64; 1105],
-    level: &[u64; 195],
+    outlook: &[u64; 195],
     set: &[u64; 16],
     current: Current,
-    by: usize,
+    pending: usize,
     from: usize,
     left: usize,
     found: Progress,
 ) -> usize
-    requires { ⌜ Seeking (networkIn (now net)) (now relations) (now bounds) (now level) (now set) current by from left found ⌝ }
+    requires { ⌜ Seeking (networkIn (now net)) (now relations) (now bounds) (now outlook) (now set) current pending from left found ⌝ }
     ensures { λ r. ⌜ Sought (networkIn (now (net .entry))) (take (current .size) (now (set .entry))) (current .total .0) from left found r ⌝ }
 {
     let mut place = from;
     while goes_on(net, bounds, current.total, place, left, found) {
-        if may_get(net, relations, level, set, current, by, place) {
+        if may_get(net, relations, outlook, set, current, pending, place) {
             return place;
         }
         place += 1;
@@ -226,15 +245,15 @@ fn next_after(
     net: &buffer::Net,
     relations: &[u64; 4225],
     bounds: &[u64; 1105],
-    level: &[u64; 195],
+    outlook: &[u64; 195],
     set: &[u64; 16],
     current: Current,
-    by: usize,
+    pending: usize,
     place: usize,
     left: usize,
     found: Progress,
 ) -> usize
-    requires { ⌜ Seeking (networkIn (now net)) (now relations) (now bounds) (now level) (now set) current by (place + 1) left found ⌝ }
+    requires { ⌜ Seeking (networkIn (now net)) (now relations) (now bounds) (now outlook) (now set) current pending (place + 1) left found ⌝ }
     ensures { λ r. ⌜ Sought (networkIn (now (net .entry))) (take (current .size) (now (set .entry))) (current .total .0) (place + 1) left found r ⌝ }
 {
     let from = place + 1;
@@ -242,10 +261,10 @@ fn next_after(
         net,
         relations,
         bounds,
-        level,
+        outlook,
         set,
         current,
-        by,
+        pending,
         from,
         left,
         found,
@@ -260,7 +279,7 @@ fn extend(
     lists: &[u64; 4225],
     sums: &[u64; 768],
     bounds: &[u64; 1105],
-    level: &mut [u64; 195],
+    outlook: &mut [u64; 195],
     saved: &mut [u64; 3120],
     set: &mut [u64; 16],
     best: &mut [u64; 16],
@@ -269,31 +288,51 @@ fn extend(
     left: usize,
     progress: Progress,
 ) -> Progress
-    requires { ⌜ Extending (networkIn (now net)) (now relations) (now ends) (now lists) (now sums) (now bounds) (now level) (now saved) (now set) current from left × (length (now best) ≡ 16) × Counted (networkIn (now net)) progress ⌝ }
-    ensures { λ r. ⌜ Left (networkIn (now (net .entry))) (extended (networkIn (now (net .entry))) left (take (current .size) (now (set .entry))) from (foundIn progress (now (best .entry)))) (current .size) r (now (level .entry)) (now (level .exit)) (now (saved .entry)) (now (saved .exit)) (now (set .entry)) (now (set .exit)) (now (best .exit)) ⌝ }
+    requires { ⌜ Extending (networkIn (now net)) (now relations) (now ends) (now lists) (now sums) (now bounds) (now outlook) (now saved) (now set) current from left × (length (now best) ≡ 16) × Counted (networkIn (now net)) progress ⌝ }
+    ensures { λ r. ⌜ Left (networkIn (now (net .entry))) (extended (networkIn (now (net .entry))) left (take (current .size) (now (set .entry))) from (foundIn progress (now (best .entry)))) (current .size) r (now (outlook .entry)) (now (outlook .exit)) (now (saved .entry)) (now (saved .exit)) (now (set .entry)) (now (set .exit)) (now (best .exit)) ⌝ }
 {
     let size = current.size;
     let mut found = progress;
-    let mut by = current.last;
+    let mut pending = current.last;
     let mut place = next_place(
         net,
         relations,
         bounds,
-        level,
+        outlook,
         set,
         current,
-        by,
+        pending,
         from,
         left,
         found,
     );
     while goes_on(net, bounds, current.total, place, left, found) {
-        let next = with_place(net, relations, ends, sums, level, set, current, by, place);
+        let next = with_place(
+            net,
+            relations,
+            ends,
+            sums,
+            outlook,
+            set,
+            current,
+            pending,
+            place,
+        );
         set[size] = place as u64;
         found = visit(net, set, size + 1, next.total, best, found);
         if goes_deeper(net, bounds, next.total, place, left - 1, found) {
-            prospects::enter_once(net, relations, ends, lists, level, saved, set, size, by);
-            by = 0;
+            prospects::enter_once(
+                net,
+                relations,
+                ends,
+                lists,
+                outlook,
+                saved,
+                set,
+                size,
+                pending,
+            );
+            pending = 0;
             found = extend(
                 net,
                 relations,
@@ -301,7 +340,7 @@ fn extend(
                 lists,
                 sums,
                 bounds,
-                level,
+                outlook,
                 saved,
                 set,
                 best,
@@ -315,17 +354,17 @@ fn extend(
             net,
             relations,
             bounds,
-            level,
+            outlook,
             set,
             current,
-            by,
+            pending,
             place,
             left,
             found,
         );
     }
-    if by != current.last {
-        prospects::leave(lists, level, saved, size, current.last);
+    if pending != current.last {
+        prospects::leave(lists, outlook, saved, size, current.last);
     }
     found
 }
@@ -338,13 +377,13 @@ pub fn walk(
     lists: &[u64; 4225],
     sums: &[u64; 768],
     bounds: &[u64; 1105],
-    level: &mut [u64; 195],
+    outlook: &mut [u64; 195],
     saved: &mut [u64; 3120],
     set: &mut [u64; 16],
     best: &mut [u64; 16],
     total: Total,
 ) -> Progress
-    requires { ⌜ Starting (networkIn (now net)) (now relations) (now ends) (now lists) (now sums) (now bounds) (now level) (now saved) (now set) (now best) (total .0) ⌝ }
+    requires { ⌜ Starting (networkIn (now net)) (now relations) (now ends) (now lists) (now sums) (now bounds) (now outlook) (now saved) (now set) (now best) (total .0) ⌝ }
     ensures { λ r. ⌜ (foundIn r (now (best .exit)) ≡ search (networkIn (now (net .entry)))) × (length (now (best .exit)) ≡ 16) × (r .count ≤ 16) ⌝ }
 {
     let start = Progress {
@@ -361,7 +400,7 @@ pub fn walk(
         lists,
         sums,
         bounds,
-        level,
+        outlook,
         saved,
         set,
         best,

@@ -35,7 +35,7 @@ fn weights_tripped(net: &buffer::Net, trips: &[u64; 768], weights: &mut [u64; 15
     ensures { λ r. ⌜ HoldsWeights (networkIn (now (net .entry))) (now (weights .exit)) ⌝ }
 {
     no_weights(weights);
-    for i in 0..buffer::lines(net) {
+    for i in 0..buffer::line_count(net) {
         let code = trip_code(trips, i);
         weights[code] = weights[code] + buffer::weight(net, i + 1);
     }
@@ -124,7 +124,7 @@ fn put_lines(
     ensures { λ r. ⌜ (r ≡ length (breakerEnds (networkIn (now (net .entry))))) × (now (table .exit) ≡ segmentTable (networkIn (now (net .entry))) ++ drop (length (segmentTable (networkIn (now (net .entry))))) (now (table .entry))) ⌝ }
 {
     let mut at: usize = 0;
-    for line in 1..buffer::lines(net) + 1 {
+    for line in 1..buffer::line_count(net) + 1 {
         at = at + put_ends(net, sums, weights, line, &mut table[at..]);
     }
     at / 5

@@ -21,19 +21,19 @@ use Rattle.savings.specs.Allowed.{series-prefix}
 use Rattle.theory.specs.Behind.{none-of, numbers-once}
 use Rattle.theory.specs.Forest.{tree}
 use Rattle.theory.specs.Best.{Accepted, place-closed}
-use Rattle.sets.specs.Sets.{nearAt, weightAt, worstAt, set-total, set-series}
+use Rattle.sets.specs.Sets.{upstreamAt, weightAt, inSeriesAt, set-total, set-series}
 use Rattle.sets.specs.Apart.{place-free}
 
 -- how much the total falls with the places of a list, behind a set
 unfoldable pub fallen : Network → List ℕ → List ℕ → ℕ
 fallen N S [] = 0
 fallen N S (q ∷ later) =
-    weightAt N S (endAt N q) * (customersBehind N (nearAt N S (endAt N q)) - customersBehind N (endAt N q)) + fallen N (S ++ (q ∷ [])) later
+    weightAt N S (endAt N q) * (customersBehind N (upstreamAt N S (endAt N q)) - customersBehind N (endAt N q)) + fallen N (S ++ (q ∷ [])) later
 
 -- fewer than `series` breakers are in series with each place of a list, behind a set
 abbrev pub FewInSeries : Network → List ℕ → List ℕ → Type 0
 FewInSeries N S [] = Unit {0}
-FewInSeries N S (q ∷ later) = (worstAt N S (endAt N q) < N .head .series) × FewInSeries N (S ++ (q ∷ [])) later
+FewInSeries N S (q ∷ later) = (inSeriesAt N S (endAt N q) < N .head .series) × FewInSeries N (S ++ (q ∷ [])) later
 
 -- each place of a list is on an end that is closed, and has no breaker with the places before it
 abbrev Free : Network → List ℕ → List ℕ → Type 0
@@ -81,7 +81,7 @@ module _ (N : Network) (a : Accepted N) where
       let w : Valid N next = valid-append N before (q ∷ []) v (f .0, tt) in
       omega (
         arith,
-        less (weightAt N before e) (customersBehind N (nearAt N before e)) (customersBehind N e) (setTotal N before) (setTotal N next) (setTotal-falls N (tree N (a .read) (a .rules)) before (q ∷ []) w)
+        less (weightAt N before e) (customersBehind N (upstreamAt N before e)) (customersBehind N e) (setTotal N before) (setTotal N next) (setTotal-falls N (tree N (a .read) (a .rules)) before (q ∷ []) w)
             (set-total N (a .read) (a .rules) before v q (f .0) (f .1)),
         total-behind next later w (f .2),
         ap (λ T. setTotal N T) (append-assoc before (q ∷ []) later),

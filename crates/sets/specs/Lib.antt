@@ -1,6 +1,6 @@
 pub mod Ways
 pub mod Weights
-pub mod Worst
+pub mod InSeries
 pub mod Stops
 pub mod Onward
 pub mod Sets

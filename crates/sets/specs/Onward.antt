@@ -15,8 +15,8 @@ use Rattle.theory.specs.Ends.{any-in, fresh-unused, Joins, out, into, joins-edg
 use Rattle.theory.specs.Radial.{Rules, In, Root, joins-in, listed-vertex, station-in}
 use Rattle.theory.specs.Forest.{path-home, path-next, end-first}
 use Rattle.theory.specs.Behind.{vertices}
-use Rattle.sets.specs.Ways.{has, Way, near}
-use Rattle.sets.specs.Worst.{someBehind}
+use Rattle.sets.specs.Ways.{has, Way, upstream}
+use Rattle.sets.specs.InSeries.{someBehind}
 
 -- a path, less its first end if that is e
 abbrev less : End → List End → List End
@@ -47,10 +47,10 @@ less-none e (d ∷ ds) h = go (sameEnd d e) h
     go true h = absurd (true≢false h)
     go false h = refl
 
-less-near : (B : End → Bool) (e : End) → B e ≡ false → (es : List End) → firstOr noEnd B (less e es) ≡ firstOr noEnd B es
+less-upstream : (B : End → Bool) (e : End) → B e ≡ false → (es : List End) → firstOr noEnd B (less e es) ≡ firstOr noEnd B es
 unfolding firstOr
-less-near B e f [] = refl
-less-near B e f (d ∷ ds) = go (sameEnd d e) refl
+less-upstream B e f [] = refl
+less-upstream B e f (d ∷ ds) = go (sameEnd d e) refl
   where
     go : (b : Bool) → sameEnd d e ≡ b → firstOr noEnd B (this b ds (d ∷ ds)) ≡ firstOr noEnd B (d ∷ ds)
     go true h = sym (ap (λ b. this b d (firstOr noEnd B ds)) (ap B (sameEnd-eq d e h) ∙ f))
@@ -61,10 +61,10 @@ pub onward-first : (N : Network) (e d : End) (ds : List End) → d ∷ ds ≡ pa
 unfolding onward
 onward-first N e d ds p = ap (less e) (sym p)
 
--- the breaker near an end that has none is the first on its line's path
-pub near-line : (N : Network) (B : End → Bool) (e : End) → B e ≡ false → near (onward N) B e ≡ firstOr noEnd B (pathToHV N (line (e .line)))
+-- the breaker upstream of an end that has none is the first on its line's path
+pub upstream-line : (N : Network) (B : End → Bool) (e : End) → B e ≡ false → upstream (onward N) B e ≡ firstOr noEnd B (pathToHV N (line (e .line)))
 unfolding onward
-near-line N B e f = less-near B e f (pathToHV N (line (e .line)))
+upstream-line N B e f = less-upstream B e f (pathToHV N (line (e .line)))
 
 module _ (N : Network) (d : Read N) (r : Rules N) where
   -- each path to the HV station goes on from each of its ends as `onward` says

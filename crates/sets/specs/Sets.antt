@@ -1,4 +1,4 @@
--- A set of places of a network that is read and keeps the rules, and one more place: its total, near ends, weights and breakers in series.
+-- A set of places of a network that is read and keeps the rules, and one more place: its total, upstream breakers, weights and breakers in series.
 use Prim.Native.Nat.{ℕ, _+_, _*_, _≤_, _<_, max}
 use mathlib.Core.Path.{_≡_, refl, sym, ap, _∙_, subst, fun-ext}
 use mathlib.Core.Bool.{Bool, true, false, _||_, true≢false, or-false}
@@ -26,9 +26,9 @@ use Rattle.theory.specs.Above.{breakers-count, series-above}
 use Rattle.theory.specs.Gathering.{sum-over}
 use Rattle.theory.specs.Behind.{vertices, listed-in}
 use Rattle.theory.specs.With.{with-read, with-rules}
-use Rattle.sets.specs.Ways.{has, with, Way, near, under, near-with}
+use Rattle.sets.specs.Ways.{has, with, Way, upstream, under, upstream-with}
 use Rattle.sets.specs.Weights.{weight, total-with, weight-with}
-use Rattle.sets.specs.Worst.{worst, series-with, worst-with}
+use Rattle.sets.specs.InSeries.{in-series, series-with, in-series-with}
 use Rattle.sets.specs.Onward.{onward, way, way-onward, behind-end}
 
 module _ (N : Network) where
@@ -42,18 +42,18 @@ module _ (N : Network) where
   abbrev pub lines : List ℕ
   lines = numbers 1 (length (N .lines))
 
-  -- the network with a set of places: its breakers, and by them the weight of an end, the breaker near it and the most breakers in series with it
+  -- the network with a set of places: its breakers, and by them the weight of an end, the breaker upstream of it and the most breakers in series with it
   abbrev pub weightAt : List ℕ → End → ℕ
   weightAt S e = weight route load lines (breakersWith N S) e
 
-  abbrev pub nearAt : List ℕ → End → End
-  nearAt S e = near (onward N) (breakersWith N S) e
+  abbrev pub upstreamAt : List ℕ → End → End
+  upstreamAt S e = upstream (onward N) (breakersWith N S) e
 
   abbrev pub underAt : List ℕ → End → End → Bool
   underAt S p q = under (onward N) (breakersWith N S) p q
 
-  abbrev pub worstAt : List ℕ → End → ℕ
-  worstAt S e = worst (pathToHV N) (vertices N) (breakersWith N S) e
+  abbrev pub inSeriesAt : List ℕ → End → ℕ
+  inSeriesAt S e = in-series (pathToHV N) (vertices N) (breakersWith N S) e
 
   -- the end that is not there has no breaker
   pub no-breaker : (S : List ℕ) → Valid N S → breakersWith N S noEnd ≡ false
@@ -117,7 +117,7 @@ module _ (N : Network) (d : Read N) (r : Rules N) where
     B = breakersWith N S
 
     -- the total falls by the place's weight times the customers that its breaker spares
-    pub set-total : setTotal N (S ++ (q ∷ [])) + weightAt N S e * customersBehind N (nearAt N S e) ≡ setTotal N S + weightAt N S e * customersBehind N e
+    pub set-total : setTotal N (S ++ (q ∷ [])) + weightAt N S e * customersBehind N (upstreamAt N S e) ≡ setTotal N S + weightAt N S e * customersBehind N e
     set-total = omega (
       arith,
       setTotal-is N S v ∙ sum-over _ (lines N),
@@ -125,9 +125,9 @@ module _ (N : Network) (d : Read N) (r : Rules N) where
       total-with (route N) (load N) (onward N) B e (no-breaker N S v) f (λ d. customersBehind N d) (lines N) line-ways,
     )
 
-    -- the breaker near an end: the new one, where the end is under it
-    pub set-near : (p : End) → isOpen N p ≡ false → nearAt N (S ++ (q ∷ [])) p ≡ this (underAt N S p e) e (nearAt N S p)
-    set-near p o = ap (λ C. near (onward N) C p) (breakers-one N S q) ∙ near-with (onward N) B p e (no-breaker N S v) f (way-onward N d r p o)
+    -- the breaker upstream of an end: the new one, where the end is under it
+    pub set-upstream : (p : End) → isOpen N p ≡ false → upstreamAt N (S ++ (q ∷ [])) p ≡ this (underAt N S p e) e (upstreamAt N S p)
+    set-upstream p o = ap (λ C. upstream (onward N) C p) (breakers-one N S q) ∙ upstream-with (onward N) B p e (no-breaker N S v) f (way-onward N d r p o)
 
     -- the weight of an end: less that of the place, where the place is under it
     pub set-weight : (p : End) → B p ≡ false → weightAt N (S ++ (q ∷ [])) p + on (underAt N S e p) (weightAt N S e) ≡ weightAt N S p
@@ -136,14 +136,14 @@ module _ (N : Network) (d : Read N) (r : Rules N) where
         ∙ weight-with (route N) (load N) (onward N) B e (no-breaker N S v) f p g (way-onward N d r e c) (lines N) line-ways
 
     -- the most breakers in series with an end
-    pub set-worst : (p : End) → isOpen N p ≡ false → p ≢ e
-        → worstAt N (S ++ (q ∷ [])) p ≡ this (has e (onward N p)) (worstAt N S p + 1) (this (has p (onward N e)) (max (worstAt N S p) (worstAt N S e + 1)) (worstAt N S p))
-    set-worst p o n =
-        ap (λ C. worst (pathToHV N) (vertices N) C p) (breakers-one N S q)
-        ∙ worst-with (pathToHV N) (onward N) (vertices N) vertex-ways B e f p n (behind-end N d r p o) (behind-end N d r e c)
+    pub set-in-series : (p : End) → isOpen N p ≡ false → p ≢ e
+        → inSeriesAt N (S ++ (q ∷ [])) p ≡ this (has e (onward N p)) (inSeriesAt N S p + 1) (this (has p (onward N e)) (max (inSeriesAt N S p) (inSeriesAt N S e + 1)) (inSeriesAt N S p))
+    set-in-series p o n =
+        ap (λ C. in-series (pathToHV N) (vertices N) C p) (breakers-one N S q)
+        ∙ in-series-with (pathToHV N) (onward N) (vertices N) vertex-ways B e f p n (behind-end N d r p o) (behind-end N d r e c)
 
     -- the series rule: it held, and fewer than `series` are in series with the place
-    pub set-series : (seriesBroken (withBreakers N (S ++ (q ∷ []))) ≡ false) ↔ ((seriesBroken (withBreakers N S) ≡ false) × (worstAt N S e < N .head .series))
+    pub set-series : (seriesBroken (withBreakers N (S ++ (q ∷ []))) ≡ false) ↔ ((seriesBroken (withBreakers N S) ≡ false) × (inSeriesAt N S e < N .head .series))
     set-series =
         let old = series-set S v in
         let new = series-set (S ++ (q ∷ [])) (valid-append N S (q ∷ []) v (c, tt)) in

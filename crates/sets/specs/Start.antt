@@ -1,4 +1,4 @@
--- An accepted file's places before any is chosen: the breakers near them, their weights and the breakers in series with them.
+-- An accepted file's places before any is chosen: the breakers upstream of them, their weights and the breakers in series with them.
 use Prim.Native.Nat.{ℕ}
 use mathlib.Core.Path.{_≡_, refl, sym, ap, _∙_, fun-ext}
 use mathlib.Core.Bool.{Bool, true, false, _||_, or-false}
@@ -16,10 +16,10 @@ use Rattle.theory.specs.Ends.{any-in, any-out}
 use Rattle.theory.specs.Behind.{sum-map, vertices}
 use Rattle.theory.specs.Best.{Accepted, place-closed}
 use Rattle.sets.specs.Ways.{has}
-use Rattle.sets.specs.Worst.{most, most-map}
-use Rattle.sets.specs.Stops.{own, weight-stops, ownWorst, worst-stops}
-use Rattle.sets.specs.Onward.{onward, near-line}
-use Rattle.sets.specs.Sets.{route, load, lines, weightAt, nearAt, underAt, worstAt, no-breaker, line-ways, vertex-ways}
+use Rattle.sets.specs.InSeries.{most, most-map}
+use Rattle.sets.specs.Stops.{own, weight-stops, ownInSeries, in-series-stops}
+use Rattle.sets.specs.Onward.{onward, upstream-line}
+use Rattle.sets.specs.Sets.{route, load, lines, weightAt, upstreamAt, underAt, inSeriesAt, no-breaker, line-ways, vertex-ways}
 use Rattle.sets.specs.Apart.{placeEnds, ends-once, place-free}
 
 -- the weight of all lines whose path meets an end first, of those with a breaker or a place
@@ -27,8 +27,8 @@ abbrev pub ownAt : Network → End → ℕ
 ownAt N e = own (route N) (load N) (lines N) (breakersWith N []) (placeEnds N) e
 
 -- the most breakers on a path that meets an end first, of those with a place
-abbrev pub ownWorstAt : Network → End → ℕ
-ownWorstAt N e = ownWorst (pathToHV N) (vertices N) (breakersWith N []) (placeEnds N) e
+abbrev pub ownInSeriesAt : Network → End → ℕ
+ownInSeriesAt N e = ownInSeries (pathToHV N) (vertices N) (breakersWith N []) (placeEnds N) e
 
 module _ (N : Network) (a : Accepted N) where
   -- a place's end
@@ -52,11 +52,11 @@ module _ (N : Network) (a : Accepted N) where
   place-listed : (p : ℕ) → List·Memᴰ p (placeNumbers N) → has (endAt N p) (placeEnds N) ≡ true
   place-listed p m = any-in (λ d. sameEnd d (endAt N p)) (endAt N p) (placeEnds N) (Memᴰ·map (λ p. endAt N p) m) (sameEnd-refl (endAt N p))
 
-  -- the breaker near a place is the one that trips for a fault on its line
-  pub start-near : (p : ℕ) → List·Memᴰ p (placeNumbers N) → nearAt N [] (endAt N p) ≡ tripped N (endAt N p .line)
+  -- the breaker upstream of a place is the one that trips for a fault on its line
+  pub start-upstream : (p : ℕ) → List·Memᴰ p (placeNumbers N) → upstreamAt N [] (endAt N p) ≡ tripped N (endAt N p .line)
   unfolding tripped any
-  start-near p m =
-      near-line N (breakersWith N []) (endAt N p) (place-free-of (endAt N p) (place-listed p m))
+  start-upstream p m =
+      upstream-line N (breakersWith N []) (endAt N p) (place-free-of (endAt N p) (place-listed p m))
       ∙ ap (λ B. firstOr noEnd B (pathToHV N (line (endAt N p .line)))) (fun-ext (λ e. or-false (isBreaker N e)))
 
   -- a place's weight is the sum of what is its own and of what is that of the places under it
@@ -68,8 +68,8 @@ module _ (N : Network) (a : Accepted N) where
       ∙ sum-map _ (λ s. endAt N s) (placeNumbers N)
 
   -- the most breakers in series with a place, from the paths that meet it or a place behind it first
-  pub start-worst : (p : ℕ) → List·Memᴰ p (placeNumbers N)
-      → worstAt N [] (endAt N p) ≡ most (λ s. sameEnd (endAt N s) (endAt N p) || has (endAt N p) (onward N (endAt N s))) (λ s. ownWorstAt N (endAt N s)) (placeNumbers N)
-  start-worst p m =
-      worst-stops (onward N) (placeEnds N) no-place (endAt N p) (place-listed p m) (breakersWith N []) (pathToHV N) (vertices N) (vertex-ways N (a .read) (a .rules))
-      ∙ most-map _ (ownWorstAt N) (λ s. endAt N s) (placeNumbers N)
+  pub start-in-series : (p : ℕ) → List·Memᴰ p (placeNumbers N)
+      → inSeriesAt N [] (endAt N p) ≡ most (λ s. sameEnd (endAt N s) (endAt N p) || has (endAt N p) (onward N (endAt N s))) (λ s. ownInSeriesAt N (endAt N s)) (placeNumbers N)
+  start-in-series p m =
+      in-series-stops (onward N) (placeEnds N) no-place (endAt N p) (place-listed p m) (breakersWith N []) (pathToHV N) (vertices N) (vertex-ways N (a .read) (a .rules))
+      ∙ most-map _ (ownInSeriesAt N) (λ s. endAt N s) (placeNumbers N)

@@ -13,9 +13,9 @@ use Rattle.graphs.specs.Tree.{countOf}
 use Rattle.savings.specs.Facts.{both, sameEnd-eq}
 use Rattle.savings.specs.First.{this}
 use Rattle.theory.specs.Ends.{any-in, any-out, fresh-unused}
-use Rattle.sets.specs.Ways.{has, covers, Way, near, under, covers-is}
+use Rattle.sets.specs.Ways.{has, covers, Way, upstream, under, covers-is}
 use Rattle.sets.specs.Weights.{on-sum, on-nought, weight}
-use Rattle.sets.specs.Worst.{most, most-of, most-less, worst}
+use Rattle.sets.specs.InSeries.{most, most-of, most-less, in-series}
 
 -- of ends that are listed once, the one that is s counts if it passes a test
 listed-one : (test : End → Bool) (s : End) (n : ℕ) (ps : List End) → NoRepeat ps → sumOver (λ p. on (test p) (on (sameEnd p s) n)) ps ≡ on (has s ps && test s) n
@@ -60,7 +60,7 @@ module _ (up : End → List End) (B : End → Bool) (n : B noEnd ≡ false) (ps 
       go true true b h ih = absurd (true≢false (sym b ∙ plain e h))
       go true false b h ih = ap (λ x. x || false) (other (sameEnd e p) refl h) ∙ sym (ap (λ x. x && (sameEnd e p || under up B e p)) h)
       go false true b h ih =
-          ap (λ x. sameEnd e p || x) (covers-is up B p n (plain p listed) es (w .2) ∙ ap (λ x. has p x && sameEnd (firstOr noEnd B x) (near up B p)) (w .0))
+          ap (λ x. sameEnd e p || x) (covers-is up B p n (plain p listed) es (w .2) ∙ ap (λ x. has p x && sameEnd (firstOr noEnd B x) (upstream up B p)) (w .0))
           ∙ sym (ap (λ x. x && (sameEnd e p || under up B e p)) h)
       go false false b h ih = ap (λ x. x || covers B p es) (other (sameEnd e p) refl h) ∙ ih
 
@@ -81,8 +81,8 @@ abbrev pub firstPlace : List End → List End → End
 firstPlace ps es = firstOr noEnd (λ e. has e ps) es
 
 -- the most breakers on a path whose first place is p
-abbrev pub ownWorst : (Vertex → List End) → List Vertex → (End → Bool) → List End → End → ℕ
-ownWorst pathOf vs B ps p = most (λ v. sameEnd p (firstPlace ps (pathOf v))) (λ v. countOf B (pathOf v)) vs
+abbrev pub ownInSeries : (Vertex → List End) → List Vertex → (End → Bool) → List End → End → ℕ
+ownInSeries pathOf vs B ps p = most (λ v. sameEnd p (firstPlace ps (pathOf v))) (λ v. countOf B (pathOf v)) vs
 
 -- with no breakers, a path that passes an end has none before it
 covers-none : (p : End) (es : List End) → covers (λ e. false) p es ≡ has p es
@@ -104,15 +104,15 @@ module _ (up : End → List End) (ps : List End) (z : has noEnd ps ≡ false) (p
       ∙ ap (λ b. has s ps && (sameEnd s p || b)) ((λ i. has p (up s) && sameEnd (first-none (up s) i) (first-none (up p) i)) ∙ and-true (has p (up s)))
 
   -- Series: the most breakers on a path that passes p are the most of those whose first place is p or lies behind p.
-  pub worst-stops : (B : End → Bool) (pathOf : Vertex → List End) (vs : List Vertex) → ((v : Vertex) → List·Memᴰ v vs → Way up (pathOf v))
-      → worst pathOf vs B p ≡ most (λ s. sameEnd s p || has p (up s)) (ownWorst pathOf vs B ps) ps
-  worst-stops B pathOf vs ways = omega (
+  pub in-series-stops : (B : End → Bool) (pathOf : Vertex → List End) (vs : List Vertex) → ((v : Vertex) → List·Memᴰ v vs → Way up (pathOf v))
+      → in-series pathOf vs B p ≡ most (λ s. sameEnd s p || has p (up s)) (ownInSeries pathOf vs B ps) ps
+  in-series-stops B pathOf vs ways = omega (
     arith,
     most-less passed count (suc all) (omega arith) vs (λ v m h.
         let t = both (has (stop v) ps) (test (stop v)) (sym (passes-stop (pathOf v) (ways v m)) ∙ h) in
         let x = any-out (λ d. sameEnd d (stop v)) ps (t .0) in
         omega (arith, most-of (λ u. sameEnd (x .0) (stop u)) count vs v m (x .2), most-of test part ps (x .0) (x .1) (ap test (sameEnd-eq _ _ (x .2)) ∙ t .1))),
-    most-less test part (suc (worst pathOf vs B p)) (omega arith) ps (λ s m h. most-less (λ v. sameEnd s (stop v)) count (suc (worst pathOf vs B p)) (omega arith) vs (λ v k e.
+    most-less test part (suc (in-series pathOf vs B p)) (omega arith) ps (λ s m h. most-less (λ v. sameEnd s (stop v)) count (suc (in-series pathOf vs B p)) (omega arith) vs (λ v k e.
         let q : s ≡ stop v = sameEnd-eq s (stop v) e in
         omega (arith, most-of passed count vs v k (passes-stop (pathOf v) (ways v k) ∙ (λ i. any-in (λ d. sameEnd d (stop v)) s ps m e i && (ap test (sym q) ∙ h) i))))),
   )
@@ -130,7 +130,7 @@ module _ (up : End → List End) (ps : List End) (z : has noEnd ps ≡ false) (p
       test s = sameEnd s p || has p (up s)
 
       part : End → ℕ
-      part s = ownWorst pathOf vs B ps s
+      part s = ownInSeries pathOf vs B ps s
 
       all : ℕ
       all = most test part ps

@@ -59,12 +59,12 @@ first-on B n (e ∷ es) h = go (B e) h (first-on B n es)
 
 module _ (up : End → List End) where
   -- the breaker that trips for what lies behind an end that has none
-  abbrev pub near : (End → Bool) → End → End
-  near B q = firstOr noEnd B (up q)
+  abbrev pub upstream : (End → Bool) → End → End
+  upstream B q = firstOr noEnd B (up q)
 
   -- p lies behind q, and one breaker trips for both
   abbrev pub under : (End → Bool) → End → End → Bool
-  under B p q = has q (up p) && sameEnd (near B p) (near B q)
+  under B p q = has q (up p) && sameEnd (upstream B p) (upstream B q)
 
   -- what the path onward from an end of a path passes, the path passes
   pub has-onward : (q d : End) (es : List End) → Way up es → has q es ≡ true → has d (up q) ≡ true → has d es ≡ true
@@ -75,29 +75,29 @@ module _ (up : End → List End) where
 
   -- q's breaker would trip for a path that passes q where the same breaker trips for it now as for what lies behind q
   pub covers-is : (B : End → Bool) (q : End) → B noEnd ≡ false → B q ≡ false → (es : List End) → Way up es
-      → covers B q es ≡ (has q es && sameEnd (firstOr noEnd B es) (near B q))
+      → covers B q es ≡ (has q es && sameEnd (firstOr noEnd B es) (upstream B q))
   unfolding firstOr any
   covers-is B q n f [] w = refl
   covers-is B q n f (e ∷ es) w = go (sameEnd e q) (B e) refl refl (covers-is B q n f es (w .2))
     where
-      go : (s b : Bool) → sameEnd e q ≡ s → B e ≡ b → covers B q es ≡ (has q es && sameEnd (firstOr noEnd B es) (near B q))
-          → (s || (not b && covers B q es)) ≡ ((s || has q es) && sameEnd (this b e (firstOr noEnd B es)) (near B q))
+      go : (s b : Bool) → sameEnd e q ≡ s → B e ≡ b → covers B q es ≡ (has q es && sameEnd (firstOr noEnd B es) (upstream B q))
+          → (s || (not b && covers B q es)) ≡ ((s || has q es) && sameEnd (this b e (firstOr noEnd B es)) (upstream B q))
       go true true s b ih = absurd (true≢false (sym b ∙ ap B (sameEnd-eq e q s) ∙ f))
-      go true false s b ih = sym (ap (λ x. sameEnd (firstOr noEnd B x) (near B q)) (w .0 ∙ ap up (sameEnd-eq e q s)) ∙ sameEnd-refl (near B q))
-      go false true s b ih = apart (has q es && sameEnd e (near B q)) refl
+      go true false s b ih = sym (ap (λ x. sameEnd (firstOr noEnd B x) (upstream B q)) (w .0 ∙ ap up (sameEnd-eq e q s)) ∙ sameEnd-refl (upstream B q))
+      go false true s b ih = apart (has q es && sameEnd e (upstream B q)) refl
         where
-          apart : (c : Bool) → (has q es && sameEnd e (near B q)) ≡ c → false ≡ c
+          apart : (c : Bool) → (has q es && sameEnd e (upstream B q)) ≡ c → false ≡ c
           apart true h =
-              let t = both (has q es) (sameEnd e (near B q)) h in
-              let k : e ≡ near B q = sameEnd-eq e (near B q) (t .1) in
+              let t = both (has q es) (sameEnd e (upstream B q)) h in
+              let k : e ≡ upstream B q = sameEnd-eq e (upstream B q) (t .1) in
               absurd (true≢false (sym (has-onward q e es (w .2) (t .0) (ap (λ x. has x (up q)) k ∙ first-on B n (up q) (ap B (sym k) ∙ b))) ∙ w .1))
           apart false h = refl
       go false false s b ih = ih
 
   -- where q's breaker would trip for a path, the one that trips now is the one for what lies behind q
-  pub covered : (B : End → Bool) (q : End) → B noEnd ≡ false → B q ≡ false → (es : List End) → Way up es → covers B q es ≡ true → firstOr noEnd B es ≡ near B q
-  covered B q n f es w h = sameEnd-eq _ _ (both (has q es) (sameEnd (firstOr noEnd B es) (near B q)) (sym (covers-is B q n f es w) ∙ h) .1)
+  pub covered : (B : End → Bool) (q : End) → B noEnd ≡ false → B q ≡ false → (es : List End) → Way up es → covers B q es ≡ true → firstOr noEnd B es ≡ upstream B q
+  covered B q n f es w h = sameEnd-eq _ _ (both (has q es) (sameEnd (firstOr noEnd B es) (upstream B q)) (sym (covers-is B q n f es w) ∙ h) .1)
 
   -- Near ends: with a breaker at q, q's trips for what lies behind p where p is under q.
-  pub near-with : (B : End → Bool) (p q : End) → B noEnd ≡ false → B q ≡ false → Way up (up p) → near (with B q) p ≡ this (under B p q) q (near B p)
-  near-with B p q n f w = first-with B q (up p) ∙ ap (λ b. this b q (near B p)) (covers-is B q n f (up p) w)
+  pub upstream-with : (B : End → Bool) (p q : End) → B noEnd ≡ false → B q ≡ false → Way up (up p) → upstream (with B q) p ≡ this (under B p q) q (upstream B p)
+  upstream-with B p q n f w = first-with B q (up p) ∙ ap (λ b. this b q (upstream B p)) (covers-is B q n f (up p) w)

@@ -10,7 +10,7 @@ use Rattle.model.specs.Outage.{noEnd}
 use Rattle.graphs.specs.Sum.{on, sumOver, sum-ext, sum-zero, sum-add}
 use Rattle.savings.specs.Facts.{or-cases, both, sameEnd-eq}
 use Rattle.savings.specs.First.{this}
-use Rattle.sets.specs.Ways.{has, with, covers, covers-has, Way, near, under, first-with, has-onward, covers-is, covered}
+use Rattle.sets.specs.Ways.{has, with, covers, covers-has, Way, upstream, under, first-with, has-onward, covers-is, covered}
 
 -- a sum that is counted if a test passes, number by number
 pub on-sum : (c : Bool) (f : ℕ → ℕ) (ls : List ℕ) → on c (sumOver f ls) ≡ sumOver (λ l. on c (f l)) ls
@@ -57,14 +57,14 @@ module _ (path : ℕ → List End) (w : ℕ → ℕ) where
   totalBy value ls B = sumOver (λ l. w l * value (firstOr noEnd B (path l))) ls
 
   module _ (up : End → List End) (B : End → Bool) (q : End) (n : B noEnd ≡ false) (f : B q ≡ false) where
-    -- Totals: one more breaker lowers the impact of each line in its weight, from that of the breaker near it to its own.
+    -- Totals: one more breaker lowers the impact of each line in its weight, from that of the breaker upstream of it to its own.
     pub total-with : (value : End → ℕ) (ls : List ℕ) → ((l : ℕ) → List·Memᴰ l ls → Way up (path l))
-        → totalBy value ls (with B q) + weight ls B q * value (near up B q) ≡ totalBy value ls B + weight ls B q * value q
+        → totalBy value ls (with B q) + weight ls B q * value (upstream up B q) ≡ totalBy value ls B + weight ls B q * value q
     total-with value [] ways = omega arith
     total-with value (l ∷ ls) ways = omega (arith, one (covers B q (path l)) refl, total-with value ls (λ k m. ways k (List·Memᴰ·tail m)))
       where
         one : (c : Bool) → covers B q (path l) ≡ c
-            → w l * value (firstOr noEnd (with B q) (path l)) + on c (w l) * value (near up B q) ≡ w l * value (firstOr noEnd B (path l)) + on c (w l) * value q
+            → w l * value (firstOr noEnd (with B q) (path l)) + on c (w l) * value (upstream up B q) ≡ w l * value (firstOr noEnd B (path l)) + on c (w l) * value q
         one true c = omega (
           arith,
           ap (λ x. w l * value x) (first-with B q (path l) ∙ ap (λ x. this x q (firstOr noEnd B (path l))) c),

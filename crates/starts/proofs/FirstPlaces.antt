@@ -27,11 +27,11 @@ use Rattle.theory.specs.Behind.{far-not, vertices, listed-in}
 use Rattle.theory.specs.Best.{Accepted, place-closed}
 use Rattle.tree.specs.Outwards.{firstEnd, nearEnd}
 use Rattle.outage.proofs.Paths.{near-end, station-far}
-use Rattle.sets.specs.Worst.{most, most-of, most-less}
+use Rattle.sets.specs.InSeries.{most, most-of, most-less}
 use Rattle.sets.specs.Stops.{firstPlace}
 use Rattle.sets.specs.Sets.{route, lines}
 use Rattle.sets.specs.Apart.{placeEnds}
-use Rattle.sets.specs.Start.{ownWorstAt}
+use Rattle.sets.specs.Start.{ownInSeriesAt}
 use Rattle.paths.specs.Held.{placeOn}
 use Rattle.starts.specs.Own.{farEnd, farRoute, farPlace}
 use Rattle.starts.proofs.OnEnds.{place-in, on-is}
@@ -108,26 +108,26 @@ module _ (N : Network) (a : Accepted N) (p : ℕ) (i : 1 ≤ p) (j : p ≤ lengt
           )
 
   -- a line, and the station that it feeds
-  pub own-worst : ownWorstAt N (endAt N p) ≡ most (λ l. true) (ownOf N p) (lines N)
-  own-worst = omega (
+  pub own-in-series : ownInSeriesAt N (endAt N p) ≡ most (λ l. true) (ownOf N p) (lines N)
+  own-in-series = omega (
     arith,
     most-less test count (suc (most (λ l. true) (ownOf N p) (lines N))) (omega arith) (vertices N) (λ v m h. omega (arith, least v m h)),
-    most-less (λ l. true) (ownOf N p) (suc (ownWorstAt N (endAt N p))) (omega arith) (lines N) (λ l m _.
+    most-less (λ l. true) (ownOf N p) (suc (ownInSeriesAt N (endAt N p))) (omega arith) (lines N) (λ l m _.
         let k = numbers-in l 1 (length (N .lines)) m in
         omega (arith, by-line l (k .0) (omega (arith, k .1)), by-station l (k .0) (omega (arith, k .1)))),
   )
     where
-      by-line : (l : ℕ) → 1 ≤ l → l ≤ length (N .lines) → on (eqb (placeOn N (firstPlace (placeEnds N) (route N l))) p) (breakersOn N (route N l)) ≤ ownWorstAt N (endAt N p)
+      by-line : (l : ℕ) → 1 ≤ l → l ≤ length (N .lines) → on (eqb (placeOn N (firstPlace (placeEnds N) (route N l))) p) (breakersOn N (route N l)) ≤ ownInSeriesAt N (endAt N p)
       by-line l x y = go (eqb (placeOn N (firstPlace (placeEnds N) (route N l))) p) refl
         where
-          go : (b : Bool) → eqb (placeOn N (firstPlace (placeEnds N) (route N l))) p ≡ b → on b (breakersOn N (route N l)) ≤ ownWorstAt N (endAt N p)
+          go : (b : Bool) → eqb (placeOn N (firstPlace (placeEnds N) (route N l))) p ≡ b → on b (breakersOn N (route N l)) ≤ ownInSeriesAt N (endAt N p)
           go true h = omega (arith, no-places N (route N l), most-of test count (vertices N) (line l) (listed-vertex N (a .read) (line l) (x, y)) (sym (first-is (route N l)) ∙ h))
           go false h = omega arith
 
-      by-station : (l : ℕ) → 1 ≤ l → l ≤ length (N .lines) → on (eqb (farPlace N l) p) (breakersOn N (farRoute N l)) ≤ ownWorstAt N (endAt N p)
+      by-station : (l : ℕ) → 1 ≤ l → l ≤ length (N .lines) → on (eqb (farPlace N l) p) (breakersOn N (farRoute N l)) ≤ ownInSeriesAt N (endAt N p)
       by-station l x y = go (isOpen N (farEnd N l)) refl
         where
-          found : isOpen N (farEnd N l) ≡ false → (b : Bool) → eqb (placeOn N (firstPlace (placeEnds N) (farRoute N l))) p ≡ b → on b (breakersOn N (farRoute N l)) ≤ ownWorstAt N (endAt N p)
+          found : isOpen N (farEnd N l) ≡ false → (b : Bool) → eqb (placeOn N (firstPlace (placeEnds N) (farRoute N l))) p ≡ b → on b (breakersOn N (farRoute N l)) ≤ ownInSeriesAt N (endAt N p)
           found c true h =
               let q = far-path N a l x y c in
               omega (
@@ -140,10 +140,10 @@ module _ (N : Network) (a : Accepted N) (p : ℕ) (i : 1 ≤ p) (j : p ≤ lengt
           found c false h = omega arith
 
           go : (b : Bool) → isOpen N (farEnd N l) ≡ b
-              → on (eqb (elim b as (λ _. ℕ) [ true ↦ 0 | false ↦ placeOn N (firstPlace (placeEnds N) (farRoute N l)) ]) p) (breakersOn N (farRoute N l)) ≤ ownWorstAt N (endAt N p)
+              → on (eqb (elim b as (λ _. ℕ) [ true ↦ 0 | false ↦ placeOn N (firstPlace (placeEnds N) (farRoute N l)) ]) p) (breakersOn N (farRoute N l)) ≤ ownInSeriesAt N (endAt N p)
           go true c = none (eqb 0 p) refl
             where
-              none : (b : Bool) → eqb 0 p ≡ b → on b (breakersOn N (farRoute N l)) ≤ ownWorstAt N (endAt N p)
+              none : (b : Bool) → eqb 0 p ≡ b → on b (breakersOn N (farRoute N l)) ≤ ownInSeriesAt N (endAt N p)
               none true e = absurd (omega (arith, eqb-true 0 p e))
               none false e = omega arith
           go false c = found c (eqb (placeOn N (firstPlace (placeEnds N) (farRoute N l))) p) refl

@@ -7,4 +7,4 @@ pub mod FirstPlaces
 pub mod FarStations
 pub mod Raising
 pub mod Series
-pub mod LevelZero
+pub mod FirstOutlook

@@ -7,7 +7,7 @@ use native.Mathlib.Omega.{arith}
 use Rattle.model.specs.Lists.{numbers}
 use Rattle.graphs.specs.Sum.{on}
 use Rattle.theory.specs.Gathering.{numbers-first, numbers-none}
-use Rattle.sets.specs.Worst.{most}
+use Rattle.sets.specs.InSeries.{most}
 
 -- the largest value of those that pass a test
 abbrev pub mostFrom : (ℕ → Bool) → (ℕ → ℕ) → ℕ → ℕ → ℕ

@@ -11,25 +11,25 @@ use Rattle.model.specs.Sets.{placeNumbers}
 use Rattle.graphs.specs.Sum.{on}
 use Rattle.savings.specs.Breakers.{endAt}
 use Rattle.theory.specs.Best.{Accepted}
-use Rattle.sets.specs.Sets.{worstAt}
-use Rattle.sets.specs.Start.{start-worst}
+use Rattle.sets.specs.Sets.{inSeriesAt}
+use Rattle.sets.specs.Start.{start-in-series}
 use Rattle.relations.specs.Related.{HoldsRelations}
-use Rattle.starts.specs.Own.{HoldsOwnWorst, behindIn}
+use Rattle.starts.specs.Own.{HoldsOwnInSeries, behindIn}
 use Rattle.starts.proofs.Numbers.{mostFrom, most-first, most-all, most-ext}
 use Rattle.starts.proofs.OnEnds.{place-in, in-place}
 use Rattle.starts.proofs.UnderPlaces.{behind-is}
 
 -- with the most of the places from s on, the most so far is that of all
-pub worst-more : (test : ℕ → Bool) (f : ℕ → ℕ) (so-far next s end whole : ℕ) → s < end → next ≡ max so-far (on (test s) (f s)) → max so-far (mostFrom test f s end) ≡ whole
+pub in-series-more : (test : ℕ → Bool) (f : ℕ → ℕ) (so-far next s end whole : ℕ) → s < end → next ≡ max so-far (on (test s) (f s)) → max so-far (mostFrom test f s end) ≡ whole
     → max next (mostFrom test f (s + 1) end) ≡ whole
-worst-more test f so-far next s end whole b e h = omega (arith, h, e, most-first test f s end b)
+in-series-more test f so-far next s end whole b e h = omega (arith, h, e, most-first test f s end b)
 
-pub worst-all : (N : Network) → Accepted N → (relations own : List ℕ) → HoldsRelations N relations → HoldsOwnWorst N own → (p : ℕ) → 1 ≤ p → p ≤ length (N .places)
-    → mostFrom (behindIn relations p) (λ k. getD own k 0) 1 (length (N .places) + 1) ≡ worstAt N [] (endAt N p)
+pub in-series-all : (N : Network) → Accepted N → (relations own : List ℕ) → HoldsRelations N relations → HoldsOwnInSeries N own → (p : ℕ) → 1 ≤ p → p ≤ length (N .places)
+    → mostFrom (behindIn relations p) (λ k. getD own k 0) 1 (length (N .places) + 1) ≡ inSeriesAt N [] (endAt N p)
 unfolding placeNumbers
-worst-all N a relations own h o p i j =
+in-series-all N a relations own h o p i j =
     most-all (behindIn relations p) (λ k. getD own k 0) (length (N .places))
     ∙ most-ext (behindIn relations p) (λ k. getD own k 0) _ _ (numbers 1 (length (N .places))) (λ s m.
     let k = in-place N s m in
     λ t. on (behind-is N a relations h p s i j (k .0) (k .1) t) (o s (k .0) (k .1) t))
-    ∙ sym (start-worst N a p (place-in N p i j))
+    ∙ sym (start-in-series N a p (place-in N p i j))

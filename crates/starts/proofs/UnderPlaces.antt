@@ -1,4 +1,4 @@
--- The places that a place's values count, by the buffers of relations and near ends.
+-- The places that a place's values count, by the buffers of relations and upstream breakers.
 use Prim.Native.Nat.{ℕ, _≤_}
 use mathlib.Core.Path.{_≡_, refl, sym, ap, _∙_}
 use mathlib.Core.Bool.{Bool, true, false, _&&_, _||_, true≢false}
@@ -23,10 +23,10 @@ use Rattle.theory.specs.Best.{Accepted}
 use Rattle.tree.specs.Linked.{endCode}
 use Rattle.sets.specs.Ways.{has}
 use Rattle.sets.specs.Onward.{onward}
-use Rattle.sets.specs.Sets.{nearAt, underAt}
+use Rattle.sets.specs.Sets.{upstreamAt, underAt}
 use Rattle.sets.specs.Apart.{ends-apart}
 use Rattle.relations.specs.Related.{relation, HoldsRelations}
-use Rattle.starts.specs.Own.{HoldsNears, behindIn, underIn}
+use Rattle.starts.specs.Own.{HoldsUpstreams, behindIn, underIn}
 use Rattle.starts.proofs.OnEnds.{first-cases, place-in}
 
 -- a test in two parts, of which the first has passed or not
@@ -58,9 +58,9 @@ module _ (N : Network) where
       let s : d .side ≡ e .side = omega (arith, p, q, h) in
       λ i. record { line = l i; side = s i }
 
-  near-some : (e : End) → Some (nearAt N [] e)
+  upstream-some : (e : End) → Some (upstreamAt N [] e)
   unfolding any
-  near-some e = ⊎-elim (λ x. inl (x .0)) (λ x. inr (closed (nearAt N [] e) (x .1))) (first-cases noEnd (breakersWith N []) (onward N e))
+  upstream-some e = ⊎-elim (λ x. inl (x .0)) (λ x. inr (closed (upstreamAt N [] e) (x .1))) (first-cases noEnd (breakersWith N []) (onward N e))
     where
       closed : (d : End) → breakersWith N [] d ≡ true → (1 ≤ d .line) × (1 ≤ d .side) × (d .side ≤ 2)
       closed d h =
@@ -69,13 +69,13 @@ module _ (N : Network) where
           let s = side-of N d c in
           (closed-end N d c .0, s .0, s .1)
 
-  -- two near ends are the same where their codes are
-  near-codes : (d e : End) → eqb (endCode (nearAt N [] d)) (endCode (nearAt N [] e)) ≡ sameEnd (nearAt N [] d) (nearAt N [] e)
-  near-codes d e = go (ℕ-discrete (endCode (nearAt N [] d)) (endCode (nearAt N [] e))) (sameEnd (nearAt N [] d) (nearAt N [] e)) refl
+  -- two upstream breakers are the same where their codes are
+  upstream-codes : (d e : End) → eqb (endCode (upstreamAt N [] d)) (endCode (upstreamAt N [] e)) ≡ sameEnd (upstreamAt N [] d) (upstreamAt N [] e)
+  upstream-codes d e = go (ℕ-discrete (endCode (upstreamAt N [] d)) (endCode (upstreamAt N [] e))) (sameEnd (upstreamAt N [] d) (upstreamAt N [] e)) refl
     where
-      go : Dec (endCode (nearAt N [] d) ≡ endCode (nearAt N [] e)) → (b : Bool) → sameEnd (nearAt N [] d) (nearAt N [] e) ≡ b → eqb (endCode (nearAt N [] d)) (endCode (nearAt N [] e)) ≡ b
+      go : Dec (endCode (upstreamAt N [] d) ≡ endCode (upstreamAt N [] e)) → (b : Bool) → sameEnd (upstreamAt N [] d) (upstreamAt N [] e) ≡ b → eqb (endCode (upstreamAt N [] d)) (endCode (upstreamAt N [] e)) ≡ b
       go (yes q) true h = eq-eqb _ _ q
-      go (yes q) false h = absurd (true≢false (sym (ap (λ x. sameEnd x (nearAt N [] e)) (codes-apart _ _ (near-some d) (near-some e) q) ∙ sameEnd-refl (nearAt N [] e)) ∙ h))
+      go (yes q) false h = absurd (true≢false (sym (ap (λ x. sameEnd x (upstreamAt N [] e)) (codes-apart _ _ (upstream-some d) (upstream-some e) q) ∙ sameEnd-refl (upstreamAt N [] e)) ∙ h))
       go (no q) true h = absurd (q (ap (λ x. endCode x) (sameEnd-eq _ _ h)))
       go (no q) false h = ne-eqb _ _ q
 
@@ -103,17 +103,17 @@ module _ (N : Network) (a : Accepted N) (relations : List ℕ) (h : HoldsRelatio
   pub behind-is : behindIn relations p s ≡ (sameEnd (endAt N s) (endAt N p) || has (endAt N p) (onward N (endAt N s)))
   behind-is = λ t. same-place t || (ap (λ x. eqb x 1) (h .each p s i j k l) ∙ behind-one N p s) t
 
-  pub under-is : (nears : List ℕ) → HoldsNears N nears → underIn relations nears p s ≡ (sameEnd (endAt N s) (endAt N p) || underAt N [] (endAt N s) (endAt N p))
-  under-is nears n =
-      (λ t. behind-is t && ((λ t. eqb (n s k l t) (n p i j t)) ∙ near-codes N (endAt N s) (endAt N p)) t)
+  pub under-is : (upstreams : List ℕ) → HoldsUpstreams N upstreams → underIn relations upstreams p s ≡ (sameEnd (endAt N s) (endAt N p) || underAt N [] (endAt N s) (endAt N p))
+  under-is upstreams n =
+      (λ t. behind-is t && ((λ t. eqb (n s k l t) (n p i j t)) ∙ upstream-codes N (endAt N s) (endAt N p)) t)
       ∙ go (sameEnd (endAt N s) (endAt N p)) refl
     where
       b : Bool
       b = has (endAt N p) (onward N (endAt N s))
 
       m : Bool
-      m = sameEnd (nearAt N [] (endAt N s)) (nearAt N [] (endAt N p))
+      m = sameEnd (upstreamAt N [] (endAt N s)) (upstreamAt N [] (endAt N p))
 
       go : (c : Bool) → sameEnd (endAt N s) (endAt N p) ≡ c → ((c || b) && m) ≡ (c || (b && m))
-      go true e = ap (λ x. sameEnd (nearAt N [] x) (nearAt N [] (endAt N p))) (sameEnd-eq _ _ e) ∙ sameEnd-refl (nearAt N [] (endAt N p))
+      go true e = ap (λ x. sameEnd (upstreamAt N [] x) (upstreamAt N [] (endAt N p))) (sameEnd-eq _ _ e) ∙ sameEnd-refl (upstreamAt N [] (endAt N p))
       go false e = refl

@@ -1,2 +1,2 @@
 pub mod Own
-pub mod Level
+pub mod Outlook

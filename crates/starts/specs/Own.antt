@@ -13,9 +13,9 @@ use Rattle.theory.specs.Behind.{far}
 use Rattle.tree.specs.Linked.{endCode}
 use Rattle.tree.specs.Outwards.{nearEnd}
 use Rattle.sets.specs.Stops.{firstPlace}
-use Rattle.sets.specs.Sets.{route, nearAt}
+use Rattle.sets.specs.Sets.{route, upstreamAt}
 use Rattle.sets.specs.Apart.{placeEnds}
-use Rattle.sets.specs.Start.{ownAt, ownWorstAt}
+use Rattle.sets.specs.Start.{ownAt, ownInSeriesAt}
 use Rattle.paths.specs.Held.{placeOn}
 
 -- the far end of a line, and the path of its far station: the line's, from that end on
@@ -34,17 +34,17 @@ abbrev pub HoldsOwn : Network → List ℕ → Type 0
 HoldsOwn N own = (p : ℕ) → 1 ≤ p → p ≤ length (N .places) → getD own p 0 ≡ ownAt N (endAt N p)
 
 -- the most breakers on a path that meets each place first, of the places
-abbrev pub HoldsOwnWorst : Network → List ℕ → Type 0
-HoldsOwnWorst N worst = (p : ℕ) → 1 ≤ p → p ≤ length (N .places) → getD worst p 0 ≡ ownWorstAt N (endAt N p)
+abbrev pub HoldsOwnInSeries : Network → List ℕ → Type 0
+HoldsOwnInSeries N in-series = (p : ℕ) → 1 ≤ p → p ≤ length (N .places) → getD in-series p 0 ≡ ownInSeriesAt N (endAt N p)
 
--- the code of the breaker near each place, before any place is chosen
-abbrev pub HoldsNears : Network → List ℕ → Type 0
-HoldsNears N nears = (p : ℕ) → 1 ≤ p → p ≤ length (N .places) → getD nears p 0 ≡ endCode (nearAt N [] (endAt N p))
+-- the code of the breaker upstream of each place, before any place is chosen
+abbrev pub HoldsUpstreams : Network → List ℕ → Type 0
+HoldsUpstreams N upstreams = (p : ℕ) → 1 ≤ p → p ≤ length (N .places) → getD upstreams p 0 ≡ endCode (upstreamAt N [] (endAt N p))
 
 -- by the relations, place s is place p or behind it
 abbrev pub behindIn : List ℕ → ℕ → ℕ → Bool
 behindIn relations p s = eqb s p || eqb (getD relations (p * 65 + s) 0) 1
 
--- and the same breaker is near both
+-- and the same breaker is upstream of both
 abbrev pub underIn : List ℕ → List ℕ → ℕ → ℕ → Bool
-underIn relations nears p s = behindIn relations p s && eqb (getD nears s 0) (getD nears p 0)
+underIn relations upstreams p s = behindIn relations p s && eqb (getD upstreams s 0) (getD upstreams p 0)

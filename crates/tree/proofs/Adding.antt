@@ -18,10 +18,10 @@ unfolding nearAfter
 near-length near [] = refl
 near-length near (e ∷ es) = near-length (set near (e .line - 1) (e .side)) es ∙ length-set near (e .line - 1) (e .side)
 
-pub feed-length : (fed : ℕ) (feed : List ℕ) (es : List End) → length (feedAfter fed feed es) ≡ length feed
+pub feed-length : (fed : ℕ) (feeders : List ℕ) (es : List End) → length (feedAfter fed feeders es) ≡ length feeders
 unfolding feedAfter
-feed-length fed feed [] = refl
-feed-length fed feed (e ∷ es) = feed-length fed (set feed (e .line - 1) fed) es ∙ length-set feed (e .line - 1) fed
+feed-length fed feeders [] = refl
+feed-length fed feeders (e ∷ es) = feed-length fed (set feeders (e .line - 1) fed) es ∙ length-set feeders (e .line - 1) fed
 
 pub order-length : (order : List ℕ) (n : ℕ) (es : List End) → length (orderAfter order n es) ≡ length order
 unfolding orderAfter
@@ -40,34 +40,34 @@ order-after order n (e ∷ es) h =
 
 module _ (N : Network) (fed : ℕ) where
   -- the line of an end that is its near end, noted
-  told-one : (near feed ls : List ℕ) (e : End) → ((l : ℕ) → List·Memᴰ l ls → 1 ≤ l) → 1 ≤ e .line → e .line ≤ length near → e .line ≤ length feed → nearEnd N (e .line) ≡ e → feeder N (e .line) ≡ fed
-      → Told N near feed ls → Told N (set near (e .line - 1) (e .side)) (set feed (e .line - 1) fed) (ls ++ (e .line ∷ []))
-  told-one near feed ls e low a b c p q t l m = go (ℕ-discrete l (e .line)) (List·Memᴰ·append-cases ls m)
+  told-one : (near feeders ls : List ℕ) (e : End) → ((l : ℕ) → List·Memᴰ l ls → 1 ≤ l) → 1 ≤ e .line → e .line ≤ length near → e .line ≤ length feeders → nearEnd N (e .line) ≡ e → feeder N (e .line) ≡ fed
+      → Told N near feeders ls → Told N (set near (e .line - 1) (e .side)) (set feeders (e .line - 1) fed) (ls ++ (e .line ∷ []))
+  told-one near feeders ls e low a b c p q t l m = go (ℕ-discrete l (e .line)) (List·Memᴰ·append-cases ls m)
     where
-      own : l ≡ e .line → (getD (set near (e .line - 1) (e .side)) (l - 1) 0 ≡ nearEnd N l .side) × (getD (set feed (e .line - 1) fed) (l - 1) 0 ≡ feeder N l)
+      own : l ≡ e .line → (getD (set near (e .line - 1) (e .side)) (l - 1) 0 ≡ nearEnd N l .side) × (getD (set feeders (e .line - 1) fed) (l - 1) 0 ≡ feeder N l)
       own s = (
         ap (λ k. getD (set near (e .line - 1) (e .side)) (k - 1) 0) s ∙ getD-set-same near (e .line - 1) (e .side) 0 (omega arith) ∙ ap (λ (x : End). x .side) (sym p) ∙ ap (λ k. nearEnd N k .side) (sym s),
-        ap (λ k. getD (set feed (e .line - 1) fed) (k - 1) 0) s ∙ getD-set-same feed (e .line - 1) fed 0 (omega arith) ∙ sym q ∙ ap (feeder N) (sym s),
+        ap (λ k. getD (set feeders (e .line - 1) fed) (k - 1) 0) s ∙ getD-set-same feeders (e .line - 1) fed 0 (omega arith) ∙ sym q ∙ ap (feeder N) (sym s),
       )
 
-      go : Dec (l ≡ e .line) → List·Memᴰ l ls ⊎ List·Memᴰ l (e .line ∷ []) → (getD (set near (e .line - 1) (e .side)) (l - 1) 0 ≡ nearEnd N l .side) × (getD (set feed (e .line - 1) fed) (l - 1) 0 ≡ feeder N l)
+      go : Dec (l ≡ e .line) → List·Memᴰ l ls ⊎ List·Memᴰ l (e .line ∷ []) → (getD (set near (e .line - 1) (e .side)) (l - 1) 0 ≡ nearEnd N l .side) × (getD (set feeders (e .line - 1) fed) (l - 1) 0 ≡ feeder N l)
       go (yes s) k = own s
       go (no n) (inl k) =
           let u = low l k in
           let z : l - 1 ≢ e .line - 1 = λ s. n (omega arith) in
-          (getD-set-other near (e .line - 1) (l - 1) (e .side) 0 z ∙ t l k .0, getD-set-other feed (e .line - 1) (l - 1) fed 0 z ∙ t l k .1)
+          (getD-set-other near (e .line - 1) (l - 1) (e .side) 0 z ∙ t l k .0, getD-set-other feeders (e .line - 1) (l - 1) fed 0 z ∙ t l k .1)
       go (no n) (inr k) = own (List·Memᴰ·eq-of-singleton k)
 
   -- the lines of ends that are their near ends, noted
-  pub told-after : (near feed ls : List ℕ) (es : List End) → ((l : ℕ) → List·Memᴰ l ls → 1 ≤ l)
-      → ((e : End) → List·Memᴰ e es → (1 ≤ e .line) × (e .line ≤ length near) × (e .line ≤ length feed) × (nearEnd N (e .line) ≡ e) × (feeder N (e .line) ≡ fed))
-      → Told N near feed ls → Told N (nearAfter near es) (feedAfter fed feed es) (ls ++ map (λ e. e .line) es)
+  pub told-after : (near feeders ls : List ℕ) (es : List End) → ((l : ℕ) → List·Memᴰ l ls → 1 ≤ l)
+      → ((e : End) → List·Memᴰ e es → (1 ≤ e .line) × (e .line ≤ length near) × (e .line ≤ length feeders) × (nearEnd N (e .line) ≡ e) × (feeder N (e .line) ≡ fed))
+      → Told N near feeders ls → Told N (nearAfter near es) (feedAfter fed feeders es) (ls ++ map (λ e. e .line) es)
   unfolding nearAfter feedAfter
-  told-after near feed ls [] low h t = subst (Told N near feed) (sym (append-nil ls)) t
-  told-after near feed ls (e ∷ es) low h t =
+  told-after near feeders ls [] low h t = subst (Told N near feeders) (sym (append-nil ls)) t
+  told-after near feeders ls (e ∷ es) low h t =
       let x = h e (List·Memᴰ·head refl) in
-      subst (Told N (nearAfter near (e ∷ es)) (feedAfter fed feed (e ∷ es))) (append-snoc ls (e .line) (map (λ e. e .line) es))
-      (told-after (set near (e .line - 1) (e .side)) (set feed (e .line - 1) fed) (ls ++ (e .line ∷ [])) es
+      subst (Told N (nearAfter near (e ∷ es)) (feedAfter fed feeders (e ∷ es))) (append-snoc ls (e .line) (map (λ e. e .line) es))
+      (told-after (set near (e .line - 1) (e .side)) (set feeders (e .line - 1) fed) (ls ++ (e .line ∷ [])) es
       (λ l m. ⊎-elim (λ k. low l k) (λ k. subst (λ n. 1 ≤ n) (sym (List·Memᴰ·eq-of-singleton k)) (x .0)) (List·Memᴰ·append-cases ls m))
-      (λ f m. let y = h f (List·Memᴰ·tail m) in (y .0, omega (arith, y .1, length-set near (e .line - 1) (e .side)), omega (arith, y .2, length-set feed (e .line - 1) fed), y .3, y .4))
-      (told-one near feed ls e low (x .0) (x .1) (x .2) (x .3) (x .4) t))
+      (λ f m. let y = h f (List·Memᴰ·tail m) in (y .0, omega (arith, y .1, length-set near (e .line - 1) (e .side)), omega (arith, y .2, length-set feeders (e .line - 1) fed), y .3, y .4))
+      (told-one near feeders ls e low (x .0) (x .1) (x .2) (x .3) (x .4) t))

@@ -111,7 +111,7 @@ module _ (N : Network) (d : Read N) (r : Rules N) where
         go false q false p = absurd (let z : breaker N (far (nearEnd N l)) ≡ 0 = ap (λ b. on b 1) p in omega (arith, h, series-above N d r .0 q (line l) i))
 
   -- a line's numbers in the buffers
-  module _ (near feed counts : List ℕ) (l : ℕ) (f : Fed N near feed counts l) where
+  module _ (near feeders counts : List ℕ) (l : ℕ) (f : Fed N near feeders counts l) where
     pub side-noted : (1 ≤ getD near (l - 1) 0) × (getD near (l - 1) 0 ≤ 2)
     side-noted = let x = near-side l (f .inside) in (omega (arith, x .0, f .nears), omega (arith, x .1, f .nears))
 
@@ -121,31 +121,31 @@ module _ (N : Network) (d : Read N) (r : Rules N) where
     pub far-noted : breaker N (far (nearEnd N l)) ≡ breaker N (endIn l (3 - getD near (l - 1) 0))
     far-noted = ap (breaker N) (far-in l (f .inside) ∙ ap (λ n. endIn l (3 - n)) (sym (f .nears)))
 
-    pub noted-hv : getD feed (l - 1) 0 ≡ 0 → pathBreakers N l ≡ breaker N (endIn l (getD near (l - 1) 0))
+    pub noted-hv : getD feeders (l - 1) 0 ≡ 0 → pathBreakers N l ≡ breaker N (endIn l (getD near (l - 1) 0))
     noted-hv z = at-hv l (f .inside) (sym (f .feeds) ∙ z) ∙ own-noted
 
-    module _ (z : getD feed (l - 1) 0 ≢ 0) where
+    module _ (z : getD feeders (l - 1) 0 ≢ 0) where
       by : FedBy l (f .inside)
       by = fed-by l (f .inside) (λ q. z (f .feeds ∙ q))
 
-      feed-is : (P : ℕ → Type 0) → P (feeder N l) → P (getD feed (l - 1) 0)
+      feed-is : (P : ℕ → Type 0) → P (feeder N l) → P (getD feeders (l - 1) 0)
       feed-is P p = subst P (sym (f .feeds)) p
 
-      pub feed-in : In N (line (getD feed (l - 1) 0))
+      pub feed-in : In N (line (getD feeders (l - 1) 0))
       feed-in = feed-is (λ k. In N (line k)) (by .0)
 
-      near-of : getD near (getD feed (l - 1) 0 - 1) 0 ≡ nearEnd N (getD feed (l - 1) 0) .side
+      near-of : getD near (getD feeders (l - 1) 0 - 1) 0 ≡ nearEnd N (getD feeders (l - 1) 0) .side
       near-of = feed-is (λ k. getD near (k - 1) 0 ≡ nearEnd N k .side) (f .above (by .0 .0))
 
-      pub feed-side : (1 ≤ getD near (getD feed (l - 1) 0 - 1) 0) × (getD near (getD feed (l - 1) 0 - 1) 0 ≤ 2)
-      feed-side = let x = near-side (getD feed (l - 1) 0) feed-in in (omega (arith, x .0, near-of), omega (arith, x .1, near-of))
+      pub feed-side : (1 ≤ getD near (getD feeders (l - 1) 0 - 1) 0) × (getD near (getD feeders (l - 1) 0 - 1) 0 ≤ 2)
+      feed-side = let x = near-side (getD feeders (l - 1) 0) feed-in in (omega (arith, x .0, near-of), omega (arith, x .1, near-of))
 
-      pub feed-few : getD counts (getD feed (l - 1) 0 - 1) 0 ≤ 8
+      pub feed-few : getD counts (getD feeders (l - 1) 0 - 1) 0 ≤ 8
       feed-few = omega (arith, feed-is (λ k. getD counts (k - 1) 0 ≡ pathBreakers N k) (f .counted (by .0 .0)), feed-is (λ k. pathBreakers N k ≤ 8) (f .few (by .0 .0)))
 
-      pub noted-fed : pathBreakers N l ≡ breaker N (endIn l (getD near (l - 1) 0)) + breaker N (endIn (getD feed (l - 1) 0) (3 - getD near (getD feed (l - 1) 0 - 1) 0)) + getD counts (getD feed (l - 1) 0 - 1) 0
+      pub noted-fed : pathBreakers N l ≡ breaker N (endIn l (getD near (l - 1) 0)) + breaker N (endIn (getD feeders (l - 1) 0) (3 - getD near (getD feeders (l - 1) 0 - 1) 0)) + getD counts (getD feeders (l - 1) 0 - 1) 0
       noted-fed =
-          let k = getD feed (l - 1) 0 in
+          let k = getD feeders (l - 1) 0 in
           omega (
             arith,
             feed-is (λ k. pathBreakers N l ≡ breaker N (nearEnd N l) + breaker N (far (nearEnd N k)) + pathBreakers N k) (by .1),
@@ -154,13 +154,13 @@ module _ (N : Network) (d : Read N) (r : Rules N) where
             feed-is (λ k. getD counts (k - 1) 0 ≡ pathBreakers N k) (f .counted (by .0 .0)),
           )
 
-  module _ (near feed order : List ℕ) (o : Outwards N near feed order) where
+  module _ (near feeders order : List ℕ) (o : Outwards N near feeders order) where
     pub counted-start : (counts : List ℕ) → Counted N order counts 0
     counted-start counts = record { right = λ j h. absurd (omega arith); within = λ j h. absurd (omega arith) }
 
     -- the line at place k
     module _ (counts : List ℕ) (k : ℕ) (h : k < length (N .lines)) (c : Counted N order counts k) where
-      pub counted-fed : Fed N near feed counts (getD order k 0)
+      pub counted-fed : Fed N near feeders counts (getD order k 0)
       counted-fed = record {
         inside = o .inside k h;
         nears = o .nears (getD order k 0) (o .inside k h .0) (o .inside k h .1);

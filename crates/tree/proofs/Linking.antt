@@ -30,26 +30,26 @@ abbrev atAbove : Network → ℕ → ℕ → List End
 atAbove N s c = keep (λ e. eqb (stationAt N e) s) (closedAbove N c)
 
 -- each station's list has the closed ends at it whose codes are above c
-pub record LinkedAbove (N : Network) (c : ℕ) (heads nexts : List ℕ) : Type 0 where
-  pub lists : (s : ℕ) → 1 ≤ s → s ≤ length (N .stations) → Chain (2 * length (N .lines)) nexts (getD heads (s - 1) 0) (atAbove N s c)
-  pub above : (s : ℕ) → 1 ≤ s → s ≤ length (N .stations) → (d : ℕ) → getD heads (s - 1) 0 ≡ suc d → c ≤ d
+pub record LinkedAbove (N : Network) (c : ℕ) (chains nexts : List ℕ) : Type 0 where
+  pub lists : (s : ℕ) → 1 ≤ s → s ≤ length (N .stations) → Chain (2 * length (N .lines)) nexts (getD chains (s - 1) 0) (atAbove N s c)
+  pub above : (s : ℕ) → 1 ≤ s → s ≤ length (N .stations) → (d : ℕ) → getD chains (s - 1) 0 ≡ suc d → c ≤ d
 
 module _ (N : Network) where
-  pub linked-start : (heads nexts : List ℕ) → ((k : ℕ) → getD heads k 0 ≡ 0) → LinkedAbove N (2 * length (N .lines)) heads nexts
+  pub linked-start : (chains nexts : List ℕ) → ((k : ℕ) → getD chains k 0 ≡ 0) → LinkedAbove N (2 * length (N .lines)) chains nexts
   unfolding keep
-  linked-start heads nexts z = record {
+  linked-start chains nexts z = record {
     lists = λ s a b. rw (z (s - 1), above-none N) over;
     above = λ s a b d e. absurd (omega (arith, z (s - 1)));
   }
 
-  pub linked-end : (heads nexts : List ℕ) → LinkedAbove N 0 heads nexts → Linked N heads nexts
-  linked-end heads nexts l = record {
-    lists = λ s a b. subst (λ es. Chain (2 * length (N .lines)) nexts (getD heads (s - 1) 0) (keep (λ e. eqb (stationAt N e) s) es)) (above-all N) (l .lists s a b);
+  pub linked-end : (chains nexts : List ℕ) → LinkedAbove N 0 chains nexts → Linked N chains nexts
+  linked-end chains nexts l = record {
+    lists = λ s a b. subst (λ es. Chain (2 * length (N .lines)) nexts (getD chains (s - 1) 0) (keep (λ e. eqb (stationAt N e) s) es)) (above-all N) (l .lists s a b);
   }
 
-  module _ (c : ℕ) (a : 1 ≤ c) (b : c ≤ 2 * length (N .lines)) (heads nexts : List ℕ) (l : LinkedAbove N c heads nexts) where
+  module _ (c : ℕ) (a : 1 ≤ c) (b : c ≤ 2 * length (N .lines)) (chains nexts : List ℕ) (l : LinkedAbove N c chains nexts) where
     -- an open end is in no list
-    pub linked-open : isOpen N (codeEnd c) ≡ true → LinkedAbove N (c - 1) heads nexts
+    pub linked-open : isOpen N (codeEnd c) ≡ true → LinkedAbove N (c - 1) chains nexts
     linked-open o = record {
       lists = λ s p q. rw (above-open N c a b o) (l .lists s p q);
       above = λ s p q d e. omega (arith, l .above s p q d e);
@@ -64,32 +64,32 @@ module _ (N : Network) where
     at-other s o n = ap (keep (λ e. eqb (stationAt N e) s)) (above-closed N c a b o) ∙ rw (ne-eqb (stationAt N (codeEnd c)) s n, keep)
 
     -- a closed end comes first in the list of its station
-    pub linked-closed : (t : ℕ) → t ≡ stationAt N (codeEnd c) → 1 ≤ t → t ≤ length heads → c ≤ length nexts → isOpen N (codeEnd c) ≡ false
-        → LinkedAbove N (c - 1) (set heads (t - 1) c) (set nexts (c - 1) (getD heads (t - 1) 0))
+    pub linked-closed : (t : ℕ) → t ≡ stationAt N (codeEnd c) → 1 ≤ t → t ≤ length chains → c ≤ length nexts → isOpen N (codeEnd c) ≡ false
+        → LinkedAbove N (c - 1) (set chains (t - 1) c) (set nexts (c - 1) (getD chains (t - 1) 0))
     linked-closed t st t1 tn cn o = record {
       lists = λ s p q. lists s p q (ℕ-discrete s t);
       above = λ s p q d e. above s p q d e (ℕ-discrete s t);
     }
       where
-        here : (s : ℕ) → s ≡ t → getD (set heads (t - 1) c) (s - 1) 0 ≡ c
-        here s e = ap (λ n. getD (set heads (t - 1) c) (n - 1) 0) e ∙ getD-set-same heads (t - 1) c 0 (omega arith)
+        here : (s : ℕ) → s ≡ t → getD (set chains (t - 1) c) (s - 1) 0 ≡ c
+        here s e = ap (λ n. getD (set chains (t - 1) c) (n - 1) 0) e ∙ getD-set-same chains (t - 1) c 0 (omega arith)
 
-        other : (s : ℕ) → 1 ≤ s → s ≢ t → getD (set heads (t - 1) c) (s - 1) 0 ≡ getD heads (s - 1) 0
-        other s p n = getD-set-other heads (t - 1) (s - 1) c 0 (λ e. n (omega arith))
+        other : (s : ℕ) → 1 ≤ s → s ≢ t → getD (set chains (t - 1) c) (s - 1) 0 ≡ getD chains (s - 1) 0
+        other s p n = getD-set-other chains (t - 1) (s - 1) c 0 (λ e. n (omega arith))
 
-        follows : getD (set nexts (c - 1) (getD heads (t - 1) 0)) (c - 1) 0 ≡ getD heads (t - 1) 0
-        follows = getD-set-same nexts (c - 1) (getD heads (t - 1) 0) 0 (omega arith)
+        follows : getD (set nexts (c - 1) (getD chains (t - 1) 0)) (c - 1) 0 ≡ getD chains (t - 1) 0
+        follows = getD-set-same nexts (c - 1) (getD chains (t - 1) 0) 0 (omega arith)
 
-        kept : (s : ℕ) → 1 ≤ s → s ≤ length (N .stations) → Chain (2 * length (N .lines)) (set nexts (c - 1) (getD heads (t - 1) 0)) (getD heads (s - 1) 0) (atAbove N s c)
-        kept s p q = chain-set c (getD heads (t - 1) 0) a (l .above s p q) (l .lists s p q)
+        kept : (s : ℕ) → 1 ≤ s → s ≤ length (N .stations) → Chain (2 * length (N .lines)) (set nexts (c - 1) (getD chains (t - 1) 0)) (getD chains (s - 1) 0) (atAbove N s c)
+        kept s p q = chain-set c (getD chains (t - 1) 0) a (l .above s p q) (l .lists s p q)
 
-        lists : (s : ℕ) → 1 ≤ s → s ≤ length (N .stations) → Dec (s ≡ t) → Chain (2 * length (N .lines)) (set nexts (c - 1) (getD heads (t - 1) 0)) (getD (set heads (t - 1) c) (s - 1) 0) (atAbove N s (c - 1))
+        lists : (s : ℕ) → 1 ≤ s → s ≤ length (N .stations) → Dec (s ≡ t) → Chain (2 * length (N .lines)) (set nexts (c - 1) (getD chains (t - 1) 0)) (getD (set chains (t - 1) c) (s - 1) 0) (atAbove N s (c - 1))
         lists s p q (yes e) =
             rw (here s e, at-here s o (sym st ∙ sym e))
-            (link a b (λ d f. l .above s p q d (ap (λ n. getD heads (n - 1) 0) e ∙ sym follows ∙ f))
-            (subst (λ n. Chain (2 * length (N .lines)) (set nexts (c - 1) (getD heads (t - 1) 0)) n (atAbove N s c)) (ap (λ n. getD heads (n - 1) 0) e ∙ sym follows) (kept s p q)))
+            (link a b (λ d f. l .above s p q d (ap (λ n. getD chains (n - 1) 0) e ∙ sym follows ∙ f))
+            (subst (λ n. Chain (2 * length (N .lines)) (set nexts (c - 1) (getD chains (t - 1) 0)) n (atAbove N s c)) (ap (λ n. getD chains (n - 1) 0) e ∙ sym follows) (kept s p q)))
         lists s p q (no n) = rw (other s p n, at-other s o (λ e. n (sym e ∙ sym st))) (kept s p q)
 
-        above : (s : ℕ) → 1 ≤ s → s ≤ length (N .stations) → (d : ℕ) → getD (set heads (t - 1) c) (s - 1) 0 ≡ suc d → Dec (s ≡ t) → c - 1 ≤ d
+        above : (s : ℕ) → 1 ≤ s → s ≤ length (N .stations) → (d : ℕ) → getD (set chains (t - 1) c) (s - 1) 0 ≡ suc d → Dec (s ≡ t) → c - 1 ≤ d
         above s p q d e (yes f) = omega (arith, here s f)
         above s p q d e (no n) = omega (arith, l .above s p q d (sym (other s p n) ∙ e))

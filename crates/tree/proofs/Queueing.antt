@@ -35,9 +35,9 @@ once-place (x ∷ xs) (suc i) h n m =
     ⊎-elim (λ e. Fresh-not x (getD xs i 0) xs (n .0) (at-place xs i (omega arith)) e) (λ k. once-place xs i (omega arith) (n .1) k) (List·Memᴰ·cases-cons m)
 
 module _ (N : Network) (d : Read N) (r : Rules N) where
-  pub queue-start : (near feed order : List ℕ) → length near ≡ 768 → length feed ≡ 768 → length order ≡ 768 → Queue N (HVUpTo N 0) near feed order 0
+  pub queue-start : (near feeders order : List ℕ) → length near ≡ 768 → length feeders ≡ 768 → length order ≡ 768 → Queue N (HVUpTo N 0) near feeders order 0
   unfolding atHV
-  queue-start near feed order a b c = record {
+  queue-start near feeders order a b c = record {
     most = omega arith;
     laid = record {
       inside = λ l m. absurd (List·Memᴰ·not-nil m);
@@ -52,9 +52,9 @@ module _ (N : Network) (d : Read N) (r : Rules N) where
     orders = c;
   }
 
-  module _ {Done : ℕ → Type 0} (near feed order : List ℕ) (n : ℕ) (q : Queue N Done near feed order n) where
+  module _ {Done : ℕ → Type 0} (near feeders order : List ℕ) (n : ℕ) (q : Queue N Done near feeders order n) where
     -- the same stations
-    queue-same : {Done' : ℕ → Type 0} → ((t : ℕ) → Done t → Done' t) → ((t : ℕ) → Done' t → Done t) → Queue N Done' near feed order n
+    queue-same : {Done' : ℕ → Type 0} → ((t : ℕ) → Done t → Done' t) → ((t : ℕ) → Done' t → Done t) → Queue N Done' near feeders order n
     queue-same f g = record { most = q .most; laid = laid-same N f g (q .laid); told = q .told; nears = q .nears; feeds = q .feeds; orders = q .orders }
 
     -- the line at a place
@@ -77,10 +77,10 @@ module _ (N : Network) (d : Read N) (r : Rules N) where
             d .head .lines .high,
           )
 
-      queue-room : (heads nexts : List ℕ) → Linked N heads nexts → In N (station s) → Room nexts (getD heads (s - 1) 0) came n
-      queue-room heads nexts k i = record { most = 2 * length (N .lines); small = omega (arith, d .lineCount, d .head .lines .high); ends = endsAt N s; chain = k .lists s (i .0) (i .1); fits = room }
+      queue-room : (chains nexts : List ℕ) → Linked N chains nexts → In N (station s) → Room nexts (getD chains (s - 1) 0) came n
+      queue-room chains nexts k i = record { most = 2 * length (N .lines); small = omega (arith, d .lineCount, d .head .lines .high); ends = endsAt N s; chain = k .lists s (i .0) (i .1); fits = room }
 
-      module _ (near' feed' order' : List ℕ) (n' : ℕ) (a : Added (leaving came (endsAt N s)) fed n near feed order near' feed' order' n') where
+      module _ (near' feed' order' : List ℕ) (n' : ℕ) (a : Added (leaving came (endsAt N s)) fed n near feeders order near' feed' order' n') where
         -- its lines stand behind those before
         added : take n' order' ≡ take n order ++ map (λ e. e .line) (leaving came (endsAt N s))
         added = ap (λ k. take k order') (a .counted) ∙ ap (take (n + length (leaving came (endsAt N s)))) (a .orders) ∙ order-after order n (leaving came (endsAt N s)) (omega (arith, room, q .orders))
@@ -98,18 +98,18 @@ module _ (N : Network) (d : Read N) (r : Rules N) where
           laid = subst (Laid N Done') (sym added) (laid-more N d r s (leaving came (endsAt N s)) fed (q .laid) v new known f here g);
           told = subst (Told N near' feed') (sym added)
               (rw (a .nears, a .feeds)
-              (told-after N fed near feed (take n order) (leaving came (endsAt N s)) (λ l m. q .laid .inside l m .0)
+              (told-after N fed near feeders (take n order) (leaving came (endsAt N s)) (λ l m. q .laid .inside l m .0)
               (λ e m. let i = v .inside e m in (i .0, omega (arith, i .1, q .nears, d .lineCount, d .head .lines .high), omega (arith, i .1, q .feeds, d .lineCount, d .head .lines .high), v .near e m, v .feeds e m))
               (q .told)));
           nears = ap length (a .nears) ∙ near-length near (leaving came (endsAt N s)) ∙ q .nears;
-          feeds = ap length (a .feeds) ∙ feed-length fed feed (leaving came (endsAt N s)) ∙ q .feeds;
+          feeds = ap length (a .feeds) ∙ feed-length fed feeders (leaving came (endsAt N s)) ∙ q .feeds;
           orders = ap length (a .orders) ∙ order-length order n (leaving came (endsAt N s)) ∙ q .orders;
         }
 
   -- ── the HV stations ──
-  module _ (s : ℕ) (near feed order : List ℕ) (n : ℕ) (q : Queue N (HVUpTo N s) near feed order n) where
-    pub hv-skip : isHV N (s + 1) ≡ false → Queue N (HVUpTo N (s + 1)) near feed order n
-    hv-skip h = queue-same near feed order n q (λ t x. (x .0, omega (arith, x .1))) (λ t x. (x .0, go t x (ℕ-discrete t (s + 1))))
+  module _ (s : ℕ) (near feeders order : List ℕ) (n : ℕ) (q : Queue N (HVUpTo N s) near feeders order n) where
+    pub hv-skip : isHV N (s + 1) ≡ false → Queue N (HVUpTo N (s + 1)) near feeders order n
+    hv-skip h = queue-same near feeders order n q (λ t x. (x .0, omega (arith, x .1))) (λ t x. (x .0, go t x (ℕ-discrete t (s + 1))))
       where
         go : (t : ℕ) → HVUpTo N (s + 1) t → Dec (t ≡ s + 1) → t ≤ s
         go t x (yes e) = absurd (true≢false (sym (x .0) ∙ ap (isHV N) e ∙ h))
@@ -119,43 +119,43 @@ module _ (N : Network) (d : Read N) (r : Rules N) where
       new : HVUpTo N s (s + 1) → ⊥
       new x = omega (arith, x .1)
 
-      pub hv-room : (heads nexts : List ℕ) → Linked N heads nexts → Room nexts (getD heads s 0) 0 n
+      pub hv-room : (chains nexts : List ℕ) → Linked N chains nexts → Room nexts (getD chains s 0) 0 n
       unfolding atHV
-      hv-room heads nexts k =
+      hv-room chains nexts k =
           let e : s + 1 - 1 ≡ s = omega arith in
-          subst (λ c. Room nexts (getD heads c 0) 0 n) e
-          (queue-room near feed order n q (s + 1) 0 0 (leaves-hv N d r (s + 1) h) new (λ x. absurd (omega arith)) heads nexts k (root-in N d (station (s + 1)) h))
+          subst (λ c. Room nexts (getD chains c 0) 0 n) e
+          (queue-room near feeders order n q (s + 1) 0 0 (leaves-hv N d r (s + 1) h) new (λ x. absurd (omega arith)) chains nexts k (root-in N d (station (s + 1)) h))
 
-      pub hv-add : (heads nexts near' feed' order' : List ℕ) (n' : ℕ) → Linked N heads nexts
-          → ((most : ℕ) (es : List End) → Chain most nexts (getD heads s 0) es → Added (leaving 0 es) 0 n near feed order near' feed' order' n') → Queue N (HVUpTo N (s + 1)) near' feed' order' n'
+      pub hv-add : (chains nexts near' feed' order' : List ℕ) (n' : ℕ) → Linked N chains nexts
+          → ((most : ℕ) (es : List End) → Chain most nexts (getD chains s 0) es → Added (leaving 0 es) 0 n near feeders order near' feed' order' n') → Queue N (HVUpTo N (s + 1)) near' feed' order' n'
       unfolding atHV
-      hv-add heads nexts near' feed' order' n' k a =
-          queue-add near feed order n q (s + 1) 0 0 (leaves-hv N d r (s + 1) h) new (λ x. absurd (omega arith)) near' feed' order' n'
+      hv-add chains nexts near' feed' order' n' k a =
+          queue-add near feeders order n q (s + 1) 0 0 (leaves-hv N d r (s + 1) h) new (λ x. absurd (omega arith)) near' feed' order' n'
           (a (2 * length (N .lines)) (endsAt N (s + 1)) chain) (λ t x. (x .0, omega (arith, x .1))) (h, omega arith) (λ t x. go t x (ℕ-discrete t (s + 1)))
         where
-          chain : Chain (2 * length (N .lines)) nexts (getD heads s 0) (endsAt N (s + 1))
+          chain : Chain (2 * length (N .lines)) nexts (getD chains s 0) (endsAt N (s + 1))
           chain =
               let i = root-in N d (station (s + 1)) h in
               let e : s + 1 - 1 ≡ s = omega arith in
-              subst (λ c. Chain (2 * length (N .lines)) nexts (getD heads c 0) (endsAt N (s + 1))) e (k .lists (s + 1) (i .0) (i .1))
+              subst (λ c. Chain (2 * length (N .lines)) nexts (getD chains c 0) (endsAt N (s + 1))) e (k .lists (s + 1) (i .0) (i .1))
 
           go : (t : ℕ) → HVUpTo N (s + 1) t → Dec (t ≡ s + 1) → HVUpTo N s t ⊎ (t ≡ s + 1)
           go t x (yes e) = inr e
           go t x (no e) = inl (x .0, omega (arith, x .1))
 
     -- all HV stations
-    pub hv-end : length (N .stations) ≤ s → Queue N (Reached N []) near feed order n
+    pub hv-end : length (N .stations) ≤ s → Queue N (Reached N []) near feeders order n
     unfolding atHV
-    hv-end h = queue-same near feed order n q (λ t x. inl (x .0)) (λ t x. ⊎-elim (λ y. (y, omega (arith, root-in N d (station t) y .1))) (λ y. absurd (List·Memᴰ·not-nil (y .1))) x)
+    hv-end h = queue-same near feeders order n q (λ t x. inl (x .0)) (λ t x. ⊎-elim (λ y. (y, omega (arith, root-in N d (station t) y .1))) (λ y. absurd (List·Memᴰ·not-nil (y .1))) x)
 
   -- ── the far station of a line ──
-  module _ (i : ℕ) (near feed order : List ℕ) (n : ℕ) (q : Queue N (Reached N (take i order)) near feed order n) (h : i < n) where
+  module _ (i : ℕ) (near feeders order : List ℕ) (n : ℕ) (q : Queue N (Reached N (take i order)) near feeders order n) (h : i < n) where
     -- the line is one of the file, and its far end has this code
     line-in : In N (line (getD order i 0))
-    line-in = q .laid .inside (getD order i 0) (queue-line near feed order n q i h)
+    line-in = q .laid .inside (getD order i 0) (queue-line near feeders order n q i h)
 
     near-noted : getD near (getD order i 0 - 1) 0 ≡ nearEnd N (getD order i 0) .side
-    near-noted = q .told (getD order i 0) (queue-line near feed order n q i h) .0
+    near-noted = q .told (getD order i 0) (queue-line near feeders order n q i h) .0
 
     near-side : (1 ≤ getD near (getD order i 0 - 1) 0) × (getD near (getD order i 0 - 1) 0 ≤ 2)
     near-side = let x = side-of N (nearEnd N (getD order i 0)) (near-end N d r (getD order i 0) line-in .closed) in (omega (arith, x .0, near-noted), omega (arith, x .1, near-noted))
@@ -186,8 +186,8 @@ module _ (N : Network) (d : Read N) (r : Rules N) where
         go l c p (inl m) = inl (inr (l, m, c, p))
         go l c p (inr m) = let e = List·Memᴰ·eq-of-singleton m in inr (ap (λ k. isOpen N (far (nearEnd N k))) (sym e) ∙ c, ap (λ k. stationAt N (far (nearEnd N k))) (sym e) ∙ p)
 
-    pub far-skip : (code : ℕ) → code ≡ 2 * getD order i 0 + 1 - getD near (getD order i 0 - 1) 0 → isOpen N (codeEnd code) ≡ true → Queue N (Reached N (take (i + 1) order)) near feed order n
-    far-skip code e o = queue-same near feed order n q reached-less (λ t x. ⊎-elim (λ y. y) (λ y. absurd (true≢false (sym o ∙ ap (isOpen N) (far-coded code e) ∙ y .0))) (reached-more t x))
+    pub far-skip : (code : ℕ) → code ≡ 2 * getD order i 0 + 1 - getD near (getD order i 0 - 1) 0 → isOpen N (codeEnd code) ≡ true → Queue N (Reached N (take (i + 1) order)) near feeders order n
+    far-skip code e o = queue-same near feeders order n q reached-less (λ t x. ⊎-elim (λ y. y) (λ y. absurd (true≢false (sym o ∙ ap (isOpen N) (far-coded code e) ∙ y .0))) (reached-more t x))
 
     module _ (f : End) (e : f ≡ far (nearEnd N (getD order i 0))) (c : isOpen N f ≡ false) where
       first : FarEnd N (stationAt N f) f
@@ -208,12 +208,12 @@ module _ (N : Network) (d : Read N) (r : Rules N) where
               let w : List·Memᴰ l (take i (take n order)) = rw (take-take i n order (omega arith)) m in
               let b = q .laid .inside l (before (take n order) i w) in
               let g = far-first N d r l b k in
-              let z = heads (far (nearEnd N l)) (sym (g .path) ∙ ap (λ t. pathToHV N (station t)) p ∙ first .path) in
+              let z = chains (far (nearEnd N l)) (sym (g .path) ∙ ap (λ t. pathToHV N (station t)) p ∙ first .path) in
               let y : l ≡ getD (take n order) i 0 = sym (near-end N d r l b .own) ∙ ap (λ (x : End). x .line) z ∙ own ∙ sym (getD-take n order i 0 h) in
               once-place (take n order) i (omega (arith, length-take-le n order (omega (arith, q .most, q .orders)))) (q .laid .once) (Memᴰ·cast (sym y) w)
             where
-              heads : (g : End) {ds fs : List End} → g ∷ ds ≡ f ∷ fs → g ≡ f
-              heads g x = cc
+              chains : (g : End) {ds fs : List End} → g ∷ ds ≡ f ∷ fs → g ≡ f
+              chains g x = cc
 
               before : (xs : List ℕ) (i : ℕ) → List·Memᴰ l (take i xs) → List·Memᴰ l xs
               before [] zero m = m
@@ -238,34 +238,34 @@ module _ (N : Network) (d : Read N) (r : Rules N) where
       station-there : In N (station s)
       station-there = let x = closed-end N (codeEnd code) c in rw p (station-in N d (codeEnd code) (x .0) (x .1))
 
-      module _ (heads nexts : List ℕ) (k : Linked N heads nexts) where
-        pub far-room : Room nexts (getD heads (s - 1) 0) code n
-        far-room = queue-room near feed order n q s code (getD order i 0) leaves new-here (λ x. queue-line near feed order n q i h) heads nexts k station-there
+      module _ (chains nexts : List ℕ) (k : Linked N chains nexts) where
+        pub far-room : Room nexts (getD chains (s - 1) 0) code n
+        far-room = queue-room near feeders order n q s code (getD order i 0) leaves new-here (λ x. queue-line near feeders order n q i h) chains nexts k station-there
 
         pub far-add : (near' feed' order' : List ℕ) (n' : ℕ)
-            → ((most : ℕ) (es : List End) → Chain most nexts (getD heads (s - 1) 0) es → Added (leaving code es) (getD order i 0) n near feed order near' feed' order' n')
+            → ((most : ℕ) (es : List End) → Chain most nexts (getD chains (s - 1) 0) es → Added (leaving code es) (getD order i 0) n near feeders order near' feed' order' n')
             → Queue N (Reached N (take (i + 1) order')) near' feed' order' n' × (n ≤ n')
         far-add near' feed' order' n' a = (
-          subst (λ ls. Queue N (Reached N ls) near' feed' order' n') (sym (queue-kept near feed order n q s code (getD order i 0) leaves new-here known near' feed' order' n' added (i + 1) (omega arith)))
-              (queue-add near feed order n q s code (getD order i 0) leaves new-here known near' feed' order' n' added reached-less
+          subst (λ ls. Queue N (Reached N ls) near' feed' order' n') (sym (queue-kept near feeders order n q s code (getD order i 0) leaves new-here known near' feed' order' n' added (i + 1) (omega arith)))
+              (queue-add near feeders order n q s code (getD order i 0) leaves new-here known near' feed' order' n' added reached-less
               (inr (getD order i 0, rw one-more (Memᴰ·append-right (take i order) (List·Memᴰ·head refl)), ap (isOpen N) (sym is-far) ∙ c, ap (stationAt N) (sym is-far) ∙ sym p))
               (λ t x. ⊎-elim (λ y. inl y) (λ y. inr (sym (y .1) ∙ ap (stationAt N) (sym is-far) ∙ sym p)) (reached-more t x))),
           omega (arith, added .counted),
         )
           where
             known : 1 ≤ getD order i 0 → List·Memᴰ (getD order i 0) (take n order)
-            known x = queue-line near feed order n q i h
+            known x = queue-line near feeders order n q i h
 
-            added : Added (leaving code (endsAt N s)) (getD order i 0) n near feed order near' feed' order' n'
+            added : Added (leaving code (endsAt N s)) (getD order i 0) n near feeders order near' feed' order' n'
             added = a (2 * length (N .lines)) (endsAt N s) (k .lists s (station-there .0) (station-there .1))
 
   -- every line has had its turn
-  pub queue-end : (i : ℕ) (near feed order : List ℕ) (n : ℕ) → Queue N (Reached N (take i order)) near feed order n → i ≡ n → Outwards N near feed order
-  queue-end i near feed order n q e = record {
+  pub queue-end : (i : ℕ) (near feeders order : List ℕ) (n : ℕ) → Queue N (Reached N (take i order)) near feeders order n → i ≡ n → Outwards N near feeders order
+  queue-end i near feeders order n q e = record {
     nears = λ l a b. q .told l (all l a b) .0;
     feeds = λ l a b. q .told l (all l a b) .1;
     listed = λ l a b. let x = place-of (all l a b) in (x .0, omega (arith, x .1, full), sym (getD-take n order (x .0) 0 (omega (arith, x .1, long))) ∙ x .2);
-    inside = λ j h. q .laid .inside (getD order j 0) (queue-line near feed order n q j (omega (arith, full, long)));
+    inside = λ j h. q .laid .inside (getD order j 0) (queue-line near feeders order n q j (omega (arith, full, long)));
     after = λ j h a.
         let x = getD-take n order j 0 (omega (arith, full, long)) in
         let y = q .laid .after j (omega (arith, full)) (subst (λ l. 1 ≤ feeder N l) (sym x) a) in

@@ -15,10 +15,10 @@ abbrev pub pathBreakers : Network → ℕ → ℕ
 pathBreakers N l = breakersOn N (pathToHV N (line l))
 
 -- a line of which the buffers say the near end and the feeding line, and of this the near end and the breakers on its path
-pub record Fed (N : Network) (near feed counts : List ℕ) (l : ℕ) : Type 0 where
+pub record Fed (N : Network) (near feeders counts : List ℕ) (l : ℕ) : Type 0 where
   pub inside : In N (line l)
   pub nears : getD near (l - 1) 0 ≡ nearEnd N l .side
-  pub feeds : getD feed (l - 1) 0 ≡ feeder N l
+  pub feeds : getD feeders (l - 1) 0 ≡ feeder N l
   pub above : 1 ≤ feeder N l → getD near (feeder N l - 1) 0 ≡ nearEnd N (feeder N l) .side
   pub counted : 1 ≤ feeder N l → getD counts (feeder N l - 1) 0 ≡ pathBreakers N (feeder N l)
   pub few : 1 ≤ feeder N l → pathBreakers N (feeder N l) ≤ 8

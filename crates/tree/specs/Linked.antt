@@ -1,4 +1,4 @@
--- Lists of the closed ends at each station, in two buffers: `heads` has the first end of each station's list, `nexts` for each
+-- Lists of the closed ends at each station, in two buffers: `chains` has the first end of each station's list, `nexts` for each
 -- end the next one in its list. An end has a code: 1 and 2 are the ends of line 1, 3 and 4 those of line 2; 0 is none.
 use Prim.Native.Nat.{ℕ, suc, _+_, _*_, _-_, _/_, _%_, _≤_}
 use mathlib.Core.Path.{_≡_}
@@ -26,5 +26,5 @@ abbrev pub endsAt : Network → ℕ → List End
 endsAt N s = keep (λ e. eqb (stationAt N e) s) (closedEnds N)
 
 -- each station's list has the closed ends at it
-pub record Linked (N : Network) (heads nexts : List ℕ) : Type 0 where
-  pub lists : (s : ℕ) → 1 ≤ s → s ≤ length (N .stations) → Chain (2 * length (N .lines)) nexts (getD heads (s - 1) 0) (endsAt N s)
+pub record Linked (N : Network) (chains nexts : List ℕ) : Type 0 where
+  pub lists : (s : ℕ) → 1 ≤ s → s ≤ length (N .stations) → Chain (2 * length (N .lines)) nexts (getD chains (s - 1) 0) (endsAt N s)

@@ -1,5 +1,5 @@
 -- The queue of lines that goes outwards from the HV stations, in three buffers: the first entries of `order` are the lines that
--- have been reached, `near` and `feed` have the near end and the feeding line of each.
+-- have been reached, `near` and `feeders` have the near end and the feeding line of each.
 use Prim.Native.Nat.{ℕ, _+_, _-_, _≤_, _<_}
 use mathlib.Core.Path.{_≡_}
 use mathlib.Core.Bool.{true, false, not}
@@ -27,8 +27,8 @@ nearAfter near [] = near
 nearAfter near (e ∷ es) = nearAfter (set near (e .line - 1) (e .side)) es
 
 unfoldable pub feedAfter : ℕ → List ℕ → List End → List ℕ
-feedAfter fed feed [] = feed
-feedAfter fed feed (e ∷ es) = feedAfter fed (set feed (e .line - 1) fed) es
+feedAfter fed feeders [] = feeders
+feedAfter fed feeders (e ∷ es) = feedAfter fed (set feeders (e .line - 1) fed) es
 
 unfoldable pub orderAfter : List ℕ → ℕ → List End → List ℕ
 orderAfter order n [] = order
@@ -43,9 +43,9 @@ pub record Room (nexts : List ℕ) (first came count : ℕ) : Type 0 where
   pub fits : count + length (leaving came ends) ≤ 768
 
 -- the buffers with the lines of these ends added
-pub record Added (es : List End) (fed count : ℕ) (near feed order near' feed' order' : List ℕ) (r : ℕ) : Type 0 where
+pub record Added (es : List End) (fed count : ℕ) (near feeders order near' feed' order' : List ℕ) (r : ℕ) : Type 0 where
   pub nears : near' ≡ nearAfter near es
-  pub feeds : feed' ≡ feedAfter fed feed es
+  pub feeds : feed' ≡ feedAfter fed feeders es
   pub orders : order' ≡ orderAfter order count es
   pub counted : r ≡ count + length es
 
@@ -60,14 +60,14 @@ pub record Laid (N : Network) (Done : ℕ → Type 0) (ls : List ℕ) : Type 0 w
 
 -- what the buffers say of lines
 abbrev pub Told : Network → List ℕ → List ℕ → List ℕ → Type 0
-Told N near feed ls = (l : ℕ) → List·Memᴰ l ls → (getD near (l - 1) 0 ≡ nearEnd N l .side) × (getD feed (l - 1) 0 ≡ feeder N l)
+Told N near feeders ls = (l : ℕ) → List·Memᴰ l ls → (getD near (l - 1) 0 ≡ nearEnd N l .side) × (getD feeders (l - 1) 0 ≡ feeder N l)
 
-pub record Queue (N : Network) (Done : ℕ → Type 0) (near feed order : List ℕ) (n : ℕ) : Type 0 where
+pub record Queue (N : Network) (Done : ℕ → Type 0) (near feeders order : List ℕ) (n : ℕ) : Type 0 where
   pub most : n ≤ 768
   pub laid : Laid N Done (take n order)
-  pub told : Told N near feed (take n order)
+  pub told : Told N near feeders (take n order)
   pub nears : length near ≡ 768
-  pub feeds : length feed ≡ 768
+  pub feeds : length feeders ≡ 768
   pub orders : length order ≡ 768
 
 -- the HV stations up to one

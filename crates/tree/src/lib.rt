@@ -35,36 +35,36 @@ fn station_of(net: &buffer::Net, code: usize) -> usize
 }
 
 // Every station's list is empty.
-fn clear(heads: &mut [u64; 512], nexts: &mut [u64; 1536])
-    ensures { λ r. ⌜ ((k : ℕ) → getD (now (heads .exit)) k 0 ≡ 0) × (length (now (heads .exit)) ≡ 512) × (length (now (nexts .exit)) ≡ 1536) ⌝ }
+fn clear(chains: &mut [u64; 512], nexts: &mut [u64; 1536])
+    ensures { λ r. ⌜ ((k : ℕ) → getD (now (chains .exit)) k 0 ≡ 0) × (length (now (chains .exit)) ≡ 512) × (length (now (nexts .exit)) ≡ 1536) ⌝ }
 {
-    *heads = [0; 512];
+    *chains = [0; 512];
     *nexts = [0; 1536];
 }
 
 // The list of the closed ends at each station, by rising codes.
-pub fn link_ends(net: &buffer::Net, heads: &mut [u64; 512], nexts: &mut [u64; 1536])
+pub fn link_ends(net: &buffer::Net, chains: &mut [u64; 512], nexts: &mut [u64; 1536])
     requires { ⌜ Read (networkIn (now net)) ⌝ }
-    ensures { λ r. ⌜ Linked (networkIn (now (net .entry))) (now (heads .exit)) (now (nexts .exit)) ⌝ }
+    ensures { λ r. ⌜ Linked (networkIn (now (net .entry))) (now (chains .exit)) (now (nexts .exit)) ⌝ }
 {
-    clear(heads, nexts);
-    let mut code = 2 * buffer::lines(net);
+    clear(chains, nexts);
+    let mut code = 2 * buffer::line_count(net);
     while code != 0 {
         if is_closed(net, code) {
             let station = station_of(net, code);
-            nexts[code - 1] = heads[station - 1];
-            heads[station - 1] = code as u64;
+            nexts[code - 1] = chains[station - 1];
+            chains[station - 1] = code as u64;
         }
         code -= 1;
     }
 }
 
 // No line is noted.
-fn blank(near: &mut [u64; 768], feed: &mut [u64; 768], order: &mut [u64; 768])
-    ensures { λ r. ⌜ (length (now (near .exit)) ≡ 768) × (length (now (feed .exit)) ≡ 768) × (length (now (order .exit)) ≡ 768) ⌝ }
+fn blank(sides: &mut [u64; 768], feeders: &mut [u64; 768], order: &mut [u64; 768])
+    ensures { λ r. ⌜ (length (now (sides .exit)) ≡ 768) × (length (now (feeders .exit)) ≡ 768) × (length (now (order .exit)) ≡ 768) ⌝ }
 {
-    *near = [0; 768];
-    *feed = [0; 768];
+    *sides = [0; 768];
+    *feeders = [0; 768];
     *order = [0; 768];
 }
 
@@ -72,8 +72,8 @@ fn blank(near: &mut [u64; 768], feed: &mut [u64; 768], order: &mut [u64; 768])
 // of the order; each end is its line's near end, and line `fed` feeds it. Returns how many lines the order has then.
 fn append(
     nexts: &[u64; 1536],
-    near: &mut [u64; 768],
-    feed: &mut [u64; 768],
+    sides: &mut [u64; 768],
+    feeders: &mut [u64; 768],
     order: &mut [u64; 768],
     first: usize,
     came: usize,
@@ -81,15 +81,15 @@ fn append(
     count: usize,
 ) -> usize
     requires { ⌜ Room (now nexts) first came count ⌝ }
-    ensures { λ r. ⌜ ((most : ℕ) (es : List End) → Chain most (now (nexts .entry)) first es → Added (leaving came es) fed count (now (near .entry)) (now (feed .entry)) (now (order .entry)) (now (near .exit)) (now (feed .exit)) (now (order .exit)) r) ⌝ }
+    ensures { λ r. ⌜ ((most : ℕ) (es : List End) → Chain most (now (nexts .entry)) first es → Added (leaving came es) fed count (now (sides .entry)) (now (feeders .entry)) (now (order .entry)) (now (sides .exit)) (now (feeders .exit)) (now (order .exit)) r) ⌝ }
 {
     let mut n = count;
     let mut code = first;
     while code != 0 {
         if code != came {
             let line = (code + 1) / 2;
-            near[line - 1] = ((code + 1) % 2 + 1) as u64;
-            feed[line - 1] = fed;
+            sides[line - 1] = ((code + 1) % 2 + 1) as u64;
+            feeders[line - 1] = fed;
             order[n] = line as u64;
             n += 1;
         }
@@ -101,20 +101,20 @@ fn append(
 // The lines that leave the HV stations. Returns how many there are.
 fn from_hv(
     net: &buffer::Net,
-    heads: &[u64; 512],
+    chains: &[u64; 512],
     nexts: &[u64; 1536],
-    near: &mut [u64; 768],
-    feed: &mut [u64; 768],
+    sides: &mut [u64; 768],
+    feeders: &mut [u64; 768],
     order: &mut [u64; 768],
 ) -> usize
-    requires { ⌜ Read (networkIn (now net)) × Rules (networkIn (now net)) × Linked (networkIn (now net)) (now heads) (now nexts) ⌝ }
-    ensures { λ r. ⌜ Queue (networkIn (now (net .entry))) (Reached (networkIn (now (net .entry))) []) (now (near .exit)) (now (feed .exit)) (now (order .exit)) r ⌝ }
+    requires { ⌜ Read (networkIn (now net)) × Rules (networkIn (now net)) × Linked (networkIn (now net)) (now chains) (now nexts) ⌝ }
+    ensures { λ r. ⌜ Queue (networkIn (now (net .entry))) (Reached (networkIn (now (net .entry))) []) (now (sides .exit)) (now (feeders .exit)) (now (order .exit)) r ⌝ }
 {
-    blank(near, feed, order);
+    blank(sides, feeders, order);
     let mut n = 0;
-    for s in 0..buffer::stations(net) {
+    for s in 0..buffer::station_count(net) {
         if buffer::is_hv(net, s + 1) {
-            n = append(nexts, near, feed, order, heads[s] as usize, 0, 0, n);
+            n = append(nexts, sides, feeders, order, chains[s] as usize, 0, 0, n);
         }
     }
     n
@@ -124,30 +124,30 @@ fn from_hv(
 // Returns how many lines the order has then.
 fn from_line(
     net: &buffer::Net,
-    heads: &[u64; 512],
+    chains: &[u64; 512],
     nexts: &[u64; 1536],
-    near: &mut [u64; 768],
-    feed: &mut [u64; 768],
+    sides: &mut [u64; 768],
+    feeders: &mut [u64; 768],
     order: &mut [u64; 768],
     i: usize,
     n: usize,
 ) -> usize
-    requires { ⌜ Read (networkIn (now net)) × Rules (networkIn (now net)) × Linked (networkIn (now net)) (now heads) (now nexts) ⌝ }
-    requires { ⌜ Queue (networkIn (now net)) (Reached (networkIn (now net)) (take i (now order))) (now near) (now feed) (now order) n × (i < n) ⌝ }
-    ensures { λ r. ⌜ Queue (networkIn (now (net .entry))) (Reached (networkIn (now (net .entry))) (take (i + 1) (now (order .exit)))) (now (near .exit)) (now (feed .exit)) (now (order .exit)) r × (i < r) ⌝ }
+    requires { ⌜ Read (networkIn (now net)) × Rules (networkIn (now net)) × Linked (networkIn (now net)) (now chains) (now nexts) ⌝ }
+    requires { ⌜ Queue (networkIn (now net)) (Reached (networkIn (now net)) (take i (now order))) (now sides) (now feeders) (now order) n × (i < n) ⌝ }
+    ensures { λ r. ⌜ Queue (networkIn (now (net .entry))) (Reached (networkIn (now (net .entry))) (take (i + 1) (now (order .exit)))) (now (sides .exit)) (now (feeders .exit)) (now (order .exit)) r × (i < r) ⌝ }
 {
     let line = order[i] as usize;
-    let code = 2 * line + 1 - near[line - 1] as usize;
+    let code = 2 * line + 1 - sides[line - 1] as usize;
     if !is_closed(net, code) {
         return n;
     }
     let station = station_of(net, code);
     append(
         nexts,
-        near,
-        feed,
+        sides,
+        feeders,
         order,
-        heads[station - 1] as usize,
+        chains[station - 1] as usize,
         code,
         line as u64,
         n,
@@ -157,19 +157,19 @@ fn from_line(
 // The near end and the feeding line of each line, and an order of all lines from the HV stations outwards.
 pub fn outwards(
     net: &buffer::Net,
-    heads: &[u64; 512],
+    chains: &[u64; 512],
     nexts: &[u64; 1536],
-    near: &mut [u64; 768],
-    feed: &mut [u64; 768],
+    sides: &mut [u64; 768],
+    feeders: &mut [u64; 768],
     order: &mut [u64; 768],
 )
-    requires { ⌜ Read (networkIn (now net)) × Rules (networkIn (now net)) × Linked (networkIn (now net)) (now heads) (now nexts) ⌝ }
-    ensures { λ r. ⌜ Outwards (networkIn (now (net .entry))) (now (near .exit)) (now (feed .exit)) (now (order .exit)) ⌝ }
+    requires { ⌜ Read (networkIn (now net)) × Rules (networkIn (now net)) × Linked (networkIn (now net)) (now chains) (now nexts) ⌝ }
+    ensures { λ r. ⌜ Outwards (networkIn (now (net .entry))) (now (sides .exit)) (now (feeders .exit)) (now (order .exit)) ⌝ }
 {
-    let mut n = from_hv(net, heads, nexts, near, feed, order);
+    let mut n = from_hv(net, chains, nexts, sides, feeders, order);
     let mut i = 0;
     while i < n {
-        n = from_line(net, heads, nexts, near, feed, order, i, n);
+        n = from_line(net, chains, nexts, sides, feeders, order, i, n);
         i += 1;
     }
 }
@@ -189,20 +189,20 @@ fn breaker(net: &buffer::Net, line: usize, side: usize) -> u64
 // The breakers on a line's path to the HV station, from those on the path of the line that feeds it.
 fn path_breakers(
     net: &buffer::Net,
-    near: &[u64; 768],
-    feed: &[u64; 768],
+    sides: &[u64; 768],
+    feeders: &[u64; 768],
     counts: &[u64; 768],
     line: usize,
 ) -> u64
-    requires { ⌜ Read (networkIn (now net)) × Rules (networkIn (now net)) × Fed (networkIn (now net)) (now near) (now feed) (now counts) line ⌝ }
+    requires { ⌜ Read (networkIn (now net)) × Rules (networkIn (now net)) × Fed (networkIn (now net)) (now sides) (now feeders) (now counts) line ⌝ }
     ensures { λ r. ⌜ (r ≡ pathBreakers (networkIn (now (net .entry))) line) × (r ≤ 10) ⌝ }
 {
-    let own = breaker(net, line, near[line - 1] as usize);
-    let fed = feed[line - 1] as usize;
+    let own = breaker(net, line, sides[line - 1] as usize);
+    let fed = feeders[line - 1] as usize;
     if fed == 0 {
         return own;
     }
-    own + breaker(net, fed, 3 - near[fed - 1] as usize) + counts[fed - 1]
+    own + breaker(net, fed, 3 - sides[fed - 1] as usize) + counts[fed - 1]
 }
 
 // No breaker is counted.
@@ -213,19 +213,19 @@ fn no_counts() -> [u64; 768] {
 // Whether a path from an HV station passes more breakers than the series rule allows.
 pub fn over_series(
     net: &buffer::Net,
-    near: &[u64; 768],
-    feed: &[u64; 768],
+    sides: &[u64; 768],
+    feeders: &[u64; 768],
     order: &[u64; 768],
 ) -> bool
-    requires { ⌜ Read (networkIn (now net)) × Rules (networkIn (now net)) × Outwards (networkIn (now net)) (now near) (now feed) (now order) ⌝ }
+    requires { ⌜ Read (networkIn (now net)) × Rules (networkIn (now net)) × Outwards (networkIn (now net)) (now sides) (now feeders) (now order) ⌝ }
     ensures { λ r. ⌜ r ≡ seriesBroken (networkIn (now (net .entry))) ⌝ }
 {
     let series = buffer::series(net);
     let mut counts = no_counts();
-    for i in 0..buffer::lines(net) {
+    for i in 0..buffer::line_count(net) {
         let line = order[i] as usize;
-        let count = path_breakers(net, near, feed, &counts, line);
-        if series < count + breaker(net, line, 3 - near[line - 1] as usize) {
+        let count = path_breakers(net, sides, feeders, &counts, line);
+        if series < count + breaker(net, line, 3 - sides[line - 1] as usize) {
             return true;
         }
         counts[line - 1] = count;

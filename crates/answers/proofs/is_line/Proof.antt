@@ -8,7 +8,7 @@ use Rattle.answers.proofs.is_line.Tie as tie
 returns : tie.Need-returns
 returns c =
     let line = c .before .before .args .line in
-    let n = c .lines in
+    let n = c .line-count in
     ((λ e. (omega (arith, c .before .if1 .taken), omega (arith, n .ensures, leb-true line (n .result) e))), λ e. inr (omega (arith, n .ensures, leb-false line (n .result) e)))
 
 returns-2 : tie.Need-returns-2

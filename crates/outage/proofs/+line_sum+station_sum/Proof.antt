@@ -55,7 +55,7 @@ line-sum-add-line : (t : ℕ) → line-sum-lts.Need-add-line (
 line-sum-add-line t c =
     let s = c .before in
     let g = s .args in
-    omega (arith, line-code (g .net .now) (g .heads .now) (g .nexts .now) (s .pre .1 .0) (g .entered) (g .levels) (s .pre .1 .1))
+    omega (arith, line-code (g .net .now) (g .chains .now) (g .nexts .now) (s .pre .1 .0) (g .entered) (g .levels) (s .pre .1 .1))
 
 line-sum-add-side : (t : ℕ) → line-sum-lts.Need-add-side (
   end-state-reads.Asked,
@@ -78,7 +78,7 @@ line-sum-end-state-requires : (t : ℕ) → line-sum-lts.Need-end-state-requires
 line-sum-end-state-requires t c κs =
     let s = c .before in
     let g = s .args in
-    far-there (g .net .now) (g .heads .now) (g .nexts .now) (s .pre .1 .0) (g .entered) (g .levels) (s .pre .1 .1)
+    far-there (g .net .now) (g .chains .now) (g .nexts .now) (s .pre .1 .0) (g .entered) (g .levels) (s .pre .1 .1)
 
 line-sum-end-station-requires : (t : ℕ) → line-sum-lts.Need-end-station-requires (
   end-state-reads.Asked,
@@ -91,7 +91,7 @@ line-sum-end-station-requires : (t : ℕ) → line-sum-lts.Need-end-station-requ
 line-sum-end-station-requires t c κs =
     let s = c .before .before .before in
     let g = s .args in
-    far-there (g .net .now) (g .heads .now) (g .nexts .now) (s .pre .1 .0) (g .entered) (g .levels) (s .pre .1 .1)
+    far-there (g .net .now) (g .chains .now) (g .nexts .now) (s .pre .1 .0) (g .entered) (g .levels) (s .pre .1 .1)
 
 line-sum-mul-station-sum : (t : ℕ) → line-sum-lts.Need-mul-station-sum (
   end-state-reads.Asked,
@@ -104,7 +104,7 @@ line-sum-mul-station-sum : (t : ℕ) → line-sum-lts.Need-mul-station-sum (
 line-sum-mul-station-sum t c =
     let s = c .before .before .before .before .before in
     let g = s .args in
-    omega (arith, line-code (g .net .now) (g .heads .now) (g .nexts .now) (s .pre .1 .0) (g .entered) (g .levels) (s .pre .1 .1))
+    omega (arith, line-code (g .net .now) (g .chains .now) (g .nexts .now) (s .pre .1 .0) (g .entered) (g .levels) (s .pre .1 .1))
 
 line-sum-add-station-sum : (t : ℕ) → line-sum-lts.Need-add-station-sum (
   end-state-reads.Asked,
@@ -117,7 +117,7 @@ line-sum-add-station-sum : (t : ℕ) → line-sum-lts.Need-add-station-sum (
 line-sum-add-station-sum t c =
     let s = c .before .before .before .before .before in
     let g = s .args in
-    omega (arith, line-code (g .net .now) (g .heads .now) (g .nexts .now) (s .pre .1 .0) (g .entered) (g .levels) (s .pre .1 .1))
+    omega (arith, line-code (g .net .now) (g .chains .now) (g .nexts .now) (s .pre .1 .0) (g .entered) (g .levels) (s .pre .1 .1))
 
 line-sum-sub-station-sum : (t : ℕ) → line-sum-lts.Need-sub-station-sum (
   end-state-reads.Asked,
@@ -130,7 +130,7 @@ line-sum-sub-station-sum : (t : ℕ) → line-sum-lts.Need-sub-station-sum (
 line-sum-sub-station-sum t c =
     let s = c .before .before .before .before .before in
     let g = s .args in
-    omega (arith, line-code (g .net .now) (g .heads .now) (g .nexts .now) (s .pre .1 .0) (g .entered) (g .levels) (s .pre .1 .1))
+    omega (arith, line-code (g .net .now) (g .chains .now) (g .nexts .now) (s .pre .1 .0) (g .entered) (g .levels) (s .pre .1 .1))
 
 line-sum-sub-station-sum-2 : (t : ℕ) → line-sum-lts.Need-sub-station-sum-2 (
   end-state-reads.Asked,
@@ -143,7 +143,7 @@ line-sum-sub-station-sum-2 : (t : ℕ) → line-sum-lts.Need-sub-station-sum-2 (
 line-sum-sub-station-sum-2 t c =
     let s = c .before .before .before .before .before in
     let g = s .args in
-    line-left (g .net .now) (g .heads .now) (g .nexts .now) (s .pre .1 .0) (g .entered) (g .levels) (s .pre .1 .1)
+    line-left (g .net .now) (g .chains .now) (g .nexts .now) (s .pre .1 .0) (g .entered) (g .levels) (s .pre .1 .1)
 
 line-sum-station-sum-requires : (t : ℕ) → line-sum-lts.Need-station-sum-requires (
   end-state-reads.Asked,
@@ -156,10 +156,10 @@ line-sum-station-sum-requires : (t : ℕ) → line-sum-lts.Need-station-sum-requ
 line-sum-station-sum-requires t c κs =
     let s = c .before .before .before .before .before in
     let g = s .args in (
-      omega (arith, s .pre .0, line-left (g .net .now) (g .heads .now) (g .nexts .now) (s .pre .1 .0) (g .entered) (g .levels) (s .pre .1 .1)),
+      omega (arith, s .pre .0, line-left (g .net .now) (g .chains .now) (g .nexts .now) (s .pre .1 .0) (g .entered) (g .levels) (s .pre .1 .1)),
       (
         s .pre .1 .0,
-        far-station (g .net .now) (g .heads .now) (g .nexts .now) (s .pre .1 .0) (g .entered) (g .levels) (s .pre .1 .1) (c .before .end-station .result) (c .before .end-station .ensures) (λ q. c .before .before .if1 .taken (c .before .before .before .end-state .ensures ∙ q)),
+        far-station (g .net .now) (g .chains .now) (g .nexts .now) (s .pre .1 .0) (g .entered) (g .levels) (s .pre .1 .1) (c .before .end-station .result) (c .before .end-station .ensures) (λ q. c .before .before .if1 .taken (c .before .before .before .end-state .ensures ∙ q)),
         s .pre .1 .2,
       ),
     )
@@ -186,7 +186,7 @@ line-sum-sub-sums : (t : ℕ) → line-sum-lts.Need-sub-sums (
 line-sum-sub-sums t c =
     let s = c .before .before .before in
     let g = s .args in
-    omega (arith, line-code (g .net .now) (g .heads .now) (g .nexts .now) (s .pre .1 .0) (g .entered) (g .levels) (s .pre .1 .1))
+    omega (arith, line-code (g .net .now) (g .chains .now) (g .nexts .now) (s .pre .1 .0) (g .entered) (g .levels) (s .pre .1 .1))
 
 line-sum-mul-sums : (t : ℕ) → line-sum-lts.Need-mul-sums (
   end-state-reads.Asked,
@@ -199,7 +199,7 @@ line-sum-mul-sums : (t : ℕ) → line-sum-lts.Need-mul-sums (
 line-sum-mul-sums t c =
     let s = c .before .before .before in
     let g = s .args in
-    omega (arith, line-code (g .net .now) (g .heads .now) (g .nexts .now) (s .pre .1 .0) (g .entered) (g .levels) (s .pre .1 .1))
+    omega (arith, line-code (g .net .now) (g .chains .now) (g .nexts .now) (s .pre .1 .0) (g .entered) (g .levels) (s .pre .1 .1))
 
 line-sum-slice-write-sums : (t : ℕ) → line-sum-lts.Need-slice-write-sums (
   end-state-reads.Asked,
@@ -212,7 +212,7 @@ line-sum-slice-write-sums : (t : ℕ) → line-sum-lts.Need-slice-write-sums (
 line-sum-slice-write-sums t c =
     let s = c .before .before .before in
     let g = s .args in
-    omega (arith, line-code (g .net .now) (g .heads .now) (g .nexts .now) (s .pre .1 .0) (g .entered) (g .levels) (s .pre .1 .1), line-sum-length t c)
+    omega (arith, line-code (g .net .now) (g .chains .now) (g .nexts .now) (s .pre .1 .0) (g .entered) (g .levels) (s .pre .1 .1), line-sum-length t c)
 
 line-sum-same-length : (t : ℕ) → line-sum-lts.Need-same-length (
   end-state-reads.Asked,
@@ -239,23 +239,23 @@ line-sum-returns t c =
     let at = (g .entered + 1) / 2 - 1 in
     ⊎-elim
     (λ w. (
-      w .7 ∙ connected-sum (g .net .now) (g .heads .now) (g .nexts .now) (s .pre .1 .0) (g .entered) (g .levels) (s .pre .1 .1) (w .1 .result) (w .1 .ensures) (λ q. w .0 .taken (c .before .end-state .ensures ∙ q)) (w .3 .result) (w .3 .ensures .0),
+      w .7 ∙ connected-sum (g .net .now) (g .chains .now) (g .nexts .now) (s .pre .1 .0) (g .entered) (g .levels) (s .pre .1 .1) (w .1 .result) (w .1 .ensures) (λ q. w .0 .taken (c .before .end-state .ensures ∙ q)) (w .3 .result) (w .3 .ensures .0),
       subst (λ z. Filled N (λ d. d ≡ codeEnd (g .entered)) (g .sums .now) (set z at (c .if1 .sum))) (sym (w .6))
           (subst (λ z. Filled N (λ d. d ≡ codeEnd (g .entered)) (g .sums .now) (set (w .3 .last .1 .1 .1 .0) at z)) (sym (w .7))
-          (connected-filled (g .net .now) (g .heads .now) (g .nexts .now) (s .pre .1 .0) (g .entered) (g .levels) (s .pre .1 .1) (w .1 .result) (w .1 .ensures) (λ q. w .0 .taken (c .before .end-state .ensures ∙ q)) (w .3 .result) (w .3 .ensures .0) (g .sums .now) (w .3 .last .1 .1 .1 .0) (w .3 .kept .1 .1 .1 .0 ∙ s .pre .1 .2) (w .3 .ensures .1))),
+          (connected-filled (g .net .now) (g .chains .now) (g .nexts .now) (s .pre .1 .0) (g .entered) (g .levels) (s .pre .1 .1) (w .1 .result) (w .1 .ensures) (λ q. w .0 .taken (c .before .end-state .ensures ∙ q)) (w .3 .result) (w .3 .ensures .0) (g .sums .now) (w .3 .last .1 .1 .1 .0) (w .3 .kept .1 .1 .1 .0 ∙ s .pre .1 .2) (w .3 .ensures .1))),
     ))
     (λ w. (
-      w .2 ∙ hanging-sum (g .net .now) (g .heads .now) (g .nexts .now) (s .pre .1 .0) (g .entered) (g .levels) (s .pre .1 .1) (sym (c .before .end-state .ensures) ∙ w .0 .left),
+      w .2 ∙ hanging-sum (g .net .now) (g .chains .now) (g .nexts .now) (s .pre .1 .0) (g .entered) (g .levels) (s .pre .1 .1) (sym (c .before .end-state .ensures) ∙ w .0 .left),
       subst (λ z. Filled N (λ d. d ≡ codeEnd (g .entered)) (g .sums .now) (set z at (c .if1 .sum))) (sym (w .1))
-          (subst (λ z. Filled N (λ d. d ≡ codeEnd (g .entered)) (g .sums .now) (set (g .sums .now) at z)) (sym (w .2)) (hanging-filled (g .net .now) (g .heads .now) (g .nexts .now) (s .pre .1 .0) (g .entered) (g .levels) (s .pre .1 .1) (sym (c .before .end-state .ensures) ∙ w .0 .left) (g .sums .now) (s .pre .1 .2))),
+          (subst (λ z. Filled N (λ d. d ≡ codeEnd (g .entered)) (g .sums .now) (set (g .sums .now) at z)) (sym (w .2)) (hanging-filled (g .net .now) (g .chains .now) (g .nexts .now) (s .pre .1 .0) (g .entered) (g .levels) (s .pre .1 .1) (sym (c .before .end-state .ensures) ∙ w .0 .left) (g .sums .now) (s .pre .1 .2))),
     ))
     (c .if1 .came)
 
 abbrev station-sum-Inv-loop : station-sum-lts.InvT-loop
-station-sum-Inv-loop net heads nexts sums₀ came station levels sum₀ end₀ sums sum end = (length sums ≡ length sums₀) × Part (networkIn net) nexts came station levels end sum sums₀ sums
+station-sum-Inv-loop net chains nexts sums₀ came station levels sum₀ end₀ sums sum end = (length sums ≡ length sums₀) × Part (networkIn net) nexts came station levels end sum sums₀ sums
 
 abbrev station-sum-μ-loop : station-sum-lts.MeasureT-loop
-station-sum-μ-loop net heads nexts sums₀ came station levels sum₀ end₀ sums sum end = mostLeft end
+station-sum-μ-loop net chains nexts sums₀ came station levels sum₀ end₀ sums sum end = mostLeft end
 
 station-sum-customers-requires : (t : ℕ) → station-sum-lts.Need-customers-requires (
   customers-reads.Asked,
@@ -311,8 +311,8 @@ station-sum-loop-holds t c =
     let s = c .before .before .before in
     let g = s .args in (
       refl,
-      subst (λ n. Part (networkIn (g .net .now)) (g .nexts .now) (g .came) (g .station) (g .levels) (getD (g .heads .now) (g .station - 1) 0) n (g .sums .now) (g .sums .now)) (sym (c .before .customers .ensures))
-          (part-start (networkIn (g .net .now)) (s .pre .1 .0 .read) (s .pre .1 .0 .rules) (g .heads .now) (g .nexts .now) (s .pre .1 .0 .linked) (g .came) (g .station) (g .levels) (s .pre .1 .1) (g .sums .now)),
+      subst (λ n. Part (networkIn (g .net .now)) (g .nexts .now) (g .came) (g .station) (g .levels) (getD (g .chains .now) (g .station - 1) 0) n (g .sums .now) (g .sums .now)) (sym (c .before .customers .ensures))
+          (part-start (networkIn (g .net .now)) (s .pre .1 .0 .read) (s .pre .1 .0 .rules) (g .chains .now) (g .nexts .now) (s .pre .1 .0 .linked) (g .came) (g .station) (g .levels) (s .pre .1 .1) (g .sums .now)),
     )
 
 station-sum-sub-line-sum : (t : ℕ) → station-sum-lts.Need-sub-line-sum (

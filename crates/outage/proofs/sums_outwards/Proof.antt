@@ -15,14 +15,14 @@ use Rattle.outage.proofs.sums_outwards.Statement.{statement}
 use Rattle.outage.proofs.sums_outwards.Tie as tie
 
 abbrev Inv-loop : tie.InvT-loop
-Inv-loop net heads nexts sums₀ levels station₀ station-end sums station =
+Inv-loop net chains nexts sums₀ levels station₀ station-end sums station =
     (station-end ≡ length (networkIn net .stations) + 1) × (1 ≤ station) × (station ≤ station-end) × (length sums ≡ length sums₀) × Filled (networkIn net) (AtHV (networkIn net) station) sums₀ sums
 
 abbrev μ-loop : tie.MeasureT-loop
-μ-loop net heads nexts sums₀ levels station₀ station-end sums station = station-end - station
+μ-loop net chains nexts sums₀ levels station₀ station-end sums station = station-end - station
 
-lines-requires : tie.Need-lines-requires Inv-loop μ-loop
-lines-requires c κs = search needs
+line-count-requires : tie.Need-line-count-requires Inv-loop μ-loop
+line-count-requires c κs = search needs
 
 mul-levels : tie.Need-mul-levels Inv-loop μ-loop
 mul-levels c =
@@ -38,8 +38,8 @@ add-levels c =
     let N = networkIn (g .net .now) in
     omega (arith, read-fits N (s .pre .0 .read) .lines)
 
-stations-requires : tie.Need-stations-requires Inv-loop μ-loop
-stations-requires c κs = search needs
+station-count-requires : tie.Need-station-count-requires Inv-loop μ-loop
+station-count-requires c κs = search needs
 
 add-station-end : tie.Need-add-station-end Inv-loop μ-loop
 add-station-end c =
@@ -69,7 +69,7 @@ station-sum-requires c κs =
     let N = networkIn (g .net .now) in
     let h = c .before .before .before .before .loop in (
       s .pre .0,
-      at-hv N (s .pre .0 .read) (s .pre .0 .rules) (codeEnd 0) (h .station) (2 * c .before .before .before .before .before .before .lines .result + 1) (sym (c .before .before .is-hv .ensures) ∙ c .before .if1 .taken) (omega (arith, closed-length N, c .before .before .before .before .before .before .lines .ensures)),
+      at-hv N (s .pre .0 .read) (s .pre .0 .rules) (codeEnd 0) (h .station) (2 * c .before .before .before .before .before .before .line-count .result + 1) (sym (c .before .before .is-hv .ensures) ∙ c .before .if1 .taken) (omega (arith, closed-length N, c .before .before .before .before .before .before .line-count .ensures)),
       h .inv .3 ∙ s .pre .1,
     )
 
@@ -124,10 +124,10 @@ sums-outwards-spec =
     (tie.spec
     Inv-loop
     μ-loop
-    lines-requires
+    line-count-requires
     mul-levels
     add-levels
-    stations-requires
+    station-count-requires
     add-station-end
     loop-holds
     is-hv-requires

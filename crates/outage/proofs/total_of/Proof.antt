@@ -18,8 +18,8 @@ Inv-loop net impacts total₀ line₀ line-end sum line =
 abbrev μ-loop : tie.MeasureT-loop
 μ-loop net impacts total₀ line₀ line-end total line = line-end - line
 
-lines-requires : tie.Need-lines-requires Inv-loop μ-loop
-lines-requires c κs = search needs
+line-count-requires : tie.Need-line-count-requires Inv-loop μ-loop
+line-count-requires c κs = search needs
 
 add-line-end : tie.Need-add-line-end Inv-loop μ-loop
 add-line-end c = let s = c .before in let N = networkIn (s .args .net .now) in omega (arith, read-fits N (s .pre .0) .lines)
@@ -27,7 +27,7 @@ add-line-end c = let s = c .before in let N = networkIn (s .args .net .now) in o
 loop-holds : tie.Need-loop-holds Inv-loop μ-loop
 loop-holds c =
     let N = networkIn (c .before .args .net .now) in
-    omega (arith, amounts-all N, ap (amountsFrom N 1) {x = c .lines .result + 1} {y = length (N .lines) + 1} (omega arith))
+    omega (arith, amounts-all N, ap (amountsFrom N 1) {x = c .line-count .result + 1} {y = length (N .lines) + 1} (omega arith))
 
 outage-amount-requires : tie.Need-outage-amount-requires Inv-loop μ-loop
 outage-amount-requires c κs =
@@ -39,7 +39,7 @@ plus-requires : tie.Need-plus-requires Inv-loop μ-loop
 plus-requires c κs =
     let s = c .before .before .before .before in
     let N = networkIn (s .args .net .now) in
-    omega (arith, amounts-first N (c .before .before .loop .line) (c .before .before .before .lines .result + 1) (omega arith), total-size N (read-sized N (s .pre .0)))
+    omega (arith, amounts-first N (c .before .before .loop .line) (c .before .before .before .line-count .result + 1) (omega arith), total-size N (read-sized N (s .pre .0)))
 
 add-line : tie.Need-add-line Inv-loop μ-loop
 add-line c = omega arith
@@ -50,13 +50,13 @@ loop-less c = omega arith
 loop-again : tie.Need-loop-again Inv-loop μ-loop
 loop-again c =
     let N = networkIn (c .before .before .before .before .before .args .net .now) in
-    omega (arith, amounts-first N (c .before .before .before .loop .line) (c .before .before .before .before .lines .result + 1) (omega arith))
+    omega (arith, amounts-first N (c .before .before .before .loop .line) (c .before .before .before .before .line-count .result + 1) (omega arith))
 
 returns : tie.Need-returns Inv-loop μ-loop
 returns c =
     let N = networkIn (c .before .before .before .args .net .now) in
     let l = c .before .loop .line in
-    omega (arith, amounts-none N l, ap (amountsFrom N l) {x = c .before .before .lines .result + 1} {y = l} (omega arith))
+    omega (arith, amounts-none N l, ap (amountsFrom N l) {x = c .before .before .line-count .result + 1} {y = l} (omega arith))
 
 pub total-of-spec : {M : Type 1} → statement M
 total-of-spec =
@@ -64,7 +64,7 @@ total-of-spec =
     (tie.spec
     Inv-loop
     μ-loop
-    lines-requires
+    line-count-requires
     add-line-end
     loop-holds
     outage-amount-requires

@@ -9,11 +9,11 @@ use Rattle.outage.proofs.trips_outwards.Statement.{statement}
 use Rattle.outage.proofs.trips_outwards.Tie as tie
 
 abbrev Inv-loop : tie.InvT-loop
-Inv-loop net near feed order out₀ i₀ i-end out i =
+Inv-loop net sides feeders order out₀ i₀ i-end out i =
     (i-end ≡ length (networkIn net .lines)) × (i ≤ i-end) × (length out ≡ length out₀) × Done net order out i
 
 abbrev μ-loop : tie.MeasureT-loop
-μ-loop net near feed order out₀ i₀ i-end out i = i-end - i
+μ-loop net sides feeders order out₀ i₀ i-end out i = i-end - i
 
 loop-holds : tie.Need-loop-holds Inv-loop μ-loop
 loop-holds c = (omega arith, omega arith, omega arith, λ j h. absurd (omega arith))
@@ -29,7 +29,7 @@ trip-of-requires c κs =
     let s = c .before .before .before .before .before .before in
     let g = s .args in
     let h = c .before .before .before .loop in
-    (next-known (g .net .now) (g .near .now) (g .feed .now) (g .order .now) (s .pre .0) (s .pre .1) (s .pre .2) (h .out) (h .i) (omega arith) (h .inv .3), omega arith)
+    (next-known (g .net .now) (g .sides .now) (g .feeders .now) (g .order .now) (s .pre .0) (s .pre .1) (s .pre .2) (h .out) (h .i) (omega arith) (h .inv .3), omega arith)
 
 sub-out : tie.Need-sub-out Inv-loop μ-loop
 sub-out c =
@@ -57,7 +57,7 @@ loop-again c =
     let s = c .before .before .before .before .before .before .before in
     let g = s .args in
     let h = c .before .before .before .before .loop in
-    (omega arith, omega arith, simp length-set (h .inv .2), done-more (g .net .now) (g .near .now) (g .feed .now) (g .order .now) (s .pre .0) (s .pre .1) (s .pre .2) (h .out) (h .i) (c .trip-of .result) (omega arith) (omega arith) (c .trip-of .ensures) (h .inv .3))
+    (omega arith, omega arith, simp length-set (h .inv .2), done-more (g .net .now) (g .sides .now) (g .feeders .now) (g .order .now) (s .pre .0) (s .pre .1) (s .pre .2) (h .out) (h .i) (c .trip-of .result) (omega arith) (omega arith) (c .trip-of .ensures) (h .inv .3))
 
 same-length : tie.Need-same-length Inv-loop μ-loop
 same-length c = omega arith
@@ -67,7 +67,7 @@ returns c =
     let s = c .before .before .before .before in
     let g = s .args in
     let h = c .before .loop in
-    done-all (g .net .now) (g .near .now) (g .feed .now) (g .order .now) (s .pre .0) (s .pre .1) (s .pre .2) (h .out) (subst (Done (g .net .now) (g .order .now) (h .out)) (omega arith) (h .inv .3))
+    done-all (g .net .now) (g .sides .now) (g .feeders .now) (g .order .now) (s .pre .0) (s .pre .1) (s .pre .2) (h .out) (subst (Done (g .net .now) (g .order .now) (h .out)) (omega arith) (h .inv .3))
 
 pub trips-outwards-spec : {M : Type 1} → statement M
 trips-outwards-spec =

@@ -19,8 +19,8 @@ abbrev μ-loop : tie.MeasureT-loop
 no-ends-requires : tie.Need-no-ends-requires Inv-loop μ-loop
 no-ends-requires c κs = search needs
 
-places-requires : tie.Need-places-requires Inv-loop μ-loop
-places-requires c κs = search needs
+place-count-requires : tie.Need-place-count-requires Inv-loop μ-loop
+place-count-requires c κs = search needs
 
 add-place-end : tie.Need-add-place-end Inv-loop μ-loop
 add-place-end c = search needs
@@ -59,7 +59,7 @@ fill-ends-spec =
     Inv-loop
     μ-loop
     no-ends-requires
-    places-requires
+    place-count-requires
     add-place-end
     loop-holds
     end-of-requires

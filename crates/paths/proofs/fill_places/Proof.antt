@@ -17,15 +17,15 @@ abbrev μ-loop : tie.MeasureT-loop
 no-marks-requires : tie.Need-no-marks-requires Inv-loop μ-loop
 no-marks-requires c κs = search needs
 
-places-requires : tie.Need-places-requires Inv-loop μ-loop
-places-requires c κs = search needs
+place-count-requires : tie.Need-place-count-requires Inv-loop μ-loop
+place-count-requires c κs = search needs
 
 loop-holds : tie.Need-loop-holds Inv-loop μ-loop
 loop-holds c =
     let s = c .before .before .before in
     let N = networkIn (s .args .net .now) in
     let k = c .before .no-marks in
-    (omega arith, k .ensures .1, subst (MarksAbove N (k .last .0)) (sym (c .places .ensures)) (marks-none N (s .pre) (k .last .0) (k .ensures .0)))
+    (omega arith, k .ensures .1, subst (MarksAbove N (k .last .0)) (sym (c .place-count .ensures)) (marks-none N (s .pre) (k .last .0) (k .ensures .0)))
 
 end-of-requires : tie.Need-end-of-requires Inv-loop μ-loop
 end-of-requires c κs = (c .before .before .before .before .before .before .pre, c .before .is-place .ensures .0 (c .if1 .taken), c .before .before .loop .inv .0)
@@ -62,7 +62,7 @@ fill-places-spec =
     Inv-loop
     μ-loop
     no-marks-requires
-    places-requires
+    place-count-requires
     loop-holds
     (search needs)
     end-of-requires

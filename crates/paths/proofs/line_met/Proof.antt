@@ -25,7 +25,7 @@ met-beyond-requires c κs =
     let s = c .before .before .before .before .before in
     let g = s .args in
     let N = networkIn (g .net .now) in
-    let k = getD (g .feed .now) (g .line - 1) 0 in
+    let k = getD (g .feeders .now) (g .line - 1) 0 in
     let a = s .pre .0 .0 in
     let f : k ≡ feeder N (g .line) = s .pre .0 .2 .feeds (g .line) (s .pre .0 .3) (s .pre .0 .4) in
     let h : k ≤ length (N .lines) = omega (arith, f, feeder-high N a (g .line) (s .pre .0 .3) (s .pre .0 .4)) in
@@ -70,8 +70,8 @@ returns c =
     let s = c .before .before .before .before .before .before .before .before in
     let g = s .args in
     let N = networkIn (g .net .now) in
-    let k = getD (g .feed .now) (g .line - 1) 0 in
-    meets-route N (s .pre .0 .0) (g .line) (s .pre .0 .3) (s .pre .0 .4) (getD (g .near .now) (g .line - 1) 0) k (c .met-from .result) (s .pre .0 .2 .nears (g .line) (s .pre .0 .3) (s .pre .0 .4)) (s .pre .0 .2 .feeds (g .line) (s .pre .0 .3) (s .pre .0 .4)) (c .met-from .ensures .0 (pathBeyond N k) (c .before .before .met-beyond .ensures .0))
+    let k = getD (g .feeders .now) (g .line - 1) 0 in
+    meets-route N (s .pre .0 .0) (g .line) (s .pre .0 .3) (s .pre .0 .4) (getD (g .sides .now) (g .line - 1) 0) k (c .met-from .result) (s .pre .0 .2 .nears (g .line) (s .pre .0 .3) (s .pre .0 .4)) (s .pre .0 .2 .feeds (g .line) (s .pre .0 .3) (s .pre .0 .4)) (c .met-from .ensures .0 (pathBeyond N k) (c .before .before .met-beyond .ensures .0))
 
 pub line-met-spec : {M : Type 1} → statement M
 line-met-spec =

@@ -9,15 +9,15 @@ use Rattle.paths.proofs.lines_outwards.Statement.{statement}
 use Rattle.paths.proofs.lines_outwards.Tie as tie
 
 abbrev Inv-loop : tie.InvT-loop
-Inv-loop net near feed order marks trips₀ firsts₀ stops₀ counts₀ i₀ i-end trips firsts stops counts i =
+Inv-loop net sides feeders order marks trips₀ firsts₀ stops₀ counts₀ i₀ i-end trips firsts stops counts i =
     (i-end ≡ length (networkIn net .lines)) × (i ≤ i-end) × (length trips ≡ length trips₀) × (length firsts ≡ length firsts₀) × (length stops ≡ length stops₀) × (length counts ≡ length counts₀) × Done (networkIn net) order trips firsts stops counts i
 
 abbrev μ-loop : tie.MeasureT-loop
-μ-loop net near feed order marks trips₀ firsts₀ stops₀ counts₀ i₀ i-end trips firsts stops counts i =
+μ-loop net sides feeders order marks trips₀ firsts₀ stops₀ counts₀ i₀ i-end trips firsts stops counts i =
     i-end - i
 
-lines-requires : tie.Need-lines-requires Inv-loop μ-loop
-lines-requires c κs = search needs
+line-count-requires : tie.Need-line-count-requires Inv-loop μ-loop
+line-count-requires c κs = search needs
 
 loop-holds : tie.Need-loop-holds Inv-loop μ-loop
 loop-holds c = (omega arith, omega arith, refl, refl, refl, refl, λ j h. absurd (omega arith))
@@ -35,7 +35,7 @@ line-met-requires c κs =
     let N = networkIn (g .net .now) in
     let h = c .before .before .before .before .before .before .loop in
     let q = s .pre .1 .inside (h .i) (omega arith) in
-    ((s .pre .0, s .pre .2, holds-feeders N (g .near .now) (g .feed .now) (g .order .now) (s .pre .1), q .0, q .1), (done-feeder N (g .near .now) (g .feed .now) (g .order .now) (s .pre .1) (h .trips) (h .firsts) (h .stops) (h .counts) (h .i) (omega arith) (h .inv .6), omega arith, omega arith, omega arith, omega arith))
+    ((s .pre .0, s .pre .2, holds-feeders N (g .sides .now) (g .feeders .now) (g .order .now) (s .pre .1), q .0, q .1), (done-feeder N (g .sides .now) (g .feeders .now) (g .order .now) (s .pre .1) (h .trips) (h .firsts) (h .stops) (h .counts) (h .i) (omega arith) (h .inv .6), omega arith, omega arith, omega arith, omega arith))
 
 sub-trips : tie.Need-sub-trips Inv-loop μ-loop
 sub-trips c =
@@ -115,7 +115,7 @@ loop-again c =
       simp length-set (h .inv .3),
       simp length-set (h .inv .4),
       simp length-set (h .inv .5),
-      done-more N (g .near .now) (g .feed .now) (g .order .now) (s .pre .1) (h .trips) (h .firsts) (h .stops) (h .counts) (omega arith) (omega arith) (omega arith) (omega arith) (omega (arith, s .pre .0 .read .head .lines)) (h .i) (c .line-met .result) (omega arith) (c .line-met .ensures) (h .inv .6),
+      done-more N (g .sides .now) (g .feeders .now) (g .order .now) (s .pre .1) (h .trips) (h .firsts) (h .stops) (h .counts) (omega arith) (omega arith) (omega arith) (omega arith) (omega (arith, s .pre .0 .read .head .lines)) (h .i) (c .line-met .result) (omega arith) (c .line-met .ensures) (h .inv .6),
     )
 
 same-length : tie.Need-same-length Inv-loop μ-loop
@@ -135,7 +135,7 @@ returns c =
     let s = c .before .before .before .before .before .before .before in
     let g = s .args in
     let h = c .before .loop in
-    done-all (networkIn (g .net .now)) (g .near .now) (g .feed .now) (g .order .now) (s .pre .1) (h .trips) (h .firsts) (h .stops) (h .counts) (h .i) (omega arith) (h .inv .6)
+    done-all (networkIn (g .net .now)) (g .sides .now) (g .feeders .now) (g .order .now) (s .pre .1) (h .trips) (h .firsts) (h .stops) (h .counts) (h .i) (omega arith) (h .inv .6)
 
 pub lines-outwards-spec : {M : Type 1} → statement M
 lines-outwards-spec =
@@ -143,7 +143,7 @@ lines-outwards-spec =
     (tie.spec
     Inv-loop
     μ-loop
-    lines-requires
+    line-count-requires
     loop-holds
     mul-line
     element-copy-out-line

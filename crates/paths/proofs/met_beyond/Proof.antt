@@ -90,7 +90,7 @@ returns-2 c =
     let s = c .before .before .before .before .before .before .before .before .before .before .before in
     let g = s .args in
     let N = networkIn (g .net .now) in
-    (meets-beyond N (s .pre .0) (g .line) (omega arith) (s .pre .2) (getD (g .near .now) (g .line - 1) 0) (c .met-from .result) (s .pre .3 (omega arith)) (c .met-from .ensures .0 (route N (g .line)) (s .pre .4 (omega arith))), omega (arith, c .met-from .ensures .1, few N (s .pre .0) (g .line) (omega arith) (s .pre .2), s .pre .4 (omega arith) .counts))
+    (meets-beyond N (s .pre .0) (g .line) (omega arith) (s .pre .2) (getD (g .sides .now) (g .line - 1) 0) (c .met-from .result) (s .pre .3 (omega arith)) (c .met-from .ensures .0 (route N (g .line)) (s .pre .4 (omega arith))), omega (arith, c .met-from .ensures .1, few N (s .pre .0) (g .line) (omega arith) (s .pre .2), s .pre .4 (omega arith) .counts))
 
 pub met-beyond-spec : {M : Type 1} → statement M
 met-beyond-spec =

@@ -32,21 +32,21 @@ fill-lines-requires c κs = search needs
 fill-relations-requires : tie.Need-fill-relations-requires
 fill-relations-requires c κs = search needs
 
-places-requires : tie.Need-places-requires
-places-requires c κs = search needs
+place-count-requires : tie.Need-place-count-requires
+place-count-requires c κs = search needs
 
 fill-lists-requires : tie.Need-fill-lists-requires
-fill-lists-requires c κs = omega (arith, c .before .places .ensures, c .before .before .before .before .before .before .before .before .before .before .before .before .before .before .before .before .before .before .before .before .before .before .pre .0 .read .placeCount)
+fill-lists-requires c κs = omega (arith, c .before .place-count .ensures, c .before .before .before .before .before .before .before .before .before .before .before .before .before .before .before .before .before .before .before .before .before .before .pre .0 .read .placeCount)
 
-start-level-requires : tie.Need-start-level-requires
-start-level-requires c κs =
+start-outlook-requires : tie.Need-start-outlook-requires
+start-outlook-requires c κs =
     let s = c .before .before .before .before .before .before .before .before .before .before .before .before .before .before .before .before .before .before .before .before .before .before .before .before .before .before .before .before .before .before in
     (s .pre .0, s .pre .1 .nears, c .before .before .before .before .before .before .before .before .before .before .before .before .before .before .before .before .before .before .before .before .before .fill-places .ensures, c .before .before .before .before .before .before .before .before .before .before .before .before .before .before .before .fill-lines .ensures, c .before .before .before .before .before .before .before .before .before .before .before .fill-relations .ensures .0)
 
 returns : tie.Need-returns
 returns c =
-    let p = c .before .before .before .before .before .before .before .before .before .before .places in
-    (c .before .before .before .before .before .before .before .before .before .before .before .before .fill-relations .ensures .0, subst (HoldsLists (c .before .before .before .before .before .before .before .before .before .before .before .before .fill-relations .last .1 .1 .1 .1 .1 .0) (c .before .before .before .before .before .before .before .before .fill-lists .last .1 .1 .0)) (p .ensures) (c .before .before .before .before .before .before .before .before .fill-lists .ensures), c .before .before .before .before .before .before .before .before .before .before .before .before .before .before .before .before .before .before .before .before .before .before .before .before .fill-ends .ensures .0, c .start-level .ensures .0, c .start-level .ensures .1)
+    let p = c .before .before .before .before .before .before .before .before .before .before .place-count in
+    (c .before .before .before .before .before .before .before .before .before .before .before .before .fill-relations .ensures .0, subst (HoldsLists (c .before .before .before .before .before .before .before .before .before .before .before .before .fill-relations .last .1 .1 .1 .1 .1 .0) (c .before .before .before .before .before .before .before .before .fill-lists .last .1 .1 .0)) (p .ensures) (c .before .before .before .before .before .before .before .before .fill-lists .ensures), c .before .before .before .before .before .before .before .before .before .before .before .before .before .before .before .before .before .before .before .before .before .before .before .before .fill-ends .ensures .0, c .start-outlook .ensures .0, c .start-outlook .ensures .1)
 
 pub prepare-spec : {M : Type 1} → statement M
 prepare-spec =
@@ -61,7 +61,7 @@ prepare-spec =
     fill-places-requires
     fill-lines-requires
     fill-relations-requires
-    places-requires
+    place-count-requires
     fill-lists-requires
-    start-level-requires
+    start-outlook-requires
     returns)

@@ -8,10 +8,10 @@ use Rattle.prospects.proofs.enter.Statement.{statement}
 use Rattle.prospects.proofs.enter.Tie as tie
 
 abbrev Inv-loop : tie.InvT-loop
-Inv-loop net relations ends lists level₀ saved₀ set size last start row i₀ i-end level saved i = Written (networkIn net) lists (take size set) size last level₀ saved₀ i i-end level saved
+Inv-loop net relations ends lists outlook₀ saved₀ set size last start row i₀ i-end outlook saved i = Written (networkIn net) lists (take size set) size last outlook₀ saved₀ i i-end outlook saved
 
 abbrev μ-loop : tie.MeasureT-loop
-μ-loop net relations ends lists level₀ saved₀ set size last start row i₀ i-end level saved i = i-end - i
+μ-loop net relations ends lists outlook₀ saved₀ set size last start row i₀ i-end outlook saved i = i-end - i
 
 mul-start : tie.Need-mul-start Inv-loop μ-loop
 mul-start c = omega (arith, c .pre .few)
@@ -40,20 +40,20 @@ mul-place c = omega (arith, row (c .before .before .before .pre) .few, c .before
 element-copy-out-place : tie.Need-element-copy-out-place Inv-loop μ-loop
 element-copy-out-place c = omega (arith, row (c .before .before .before .pre) .few, c .before .loop .inv .all)
 
-near-of-requires : tie.Need-near-of-requires Inv-loop μ-loop
-near-of-requires c κs = (later-place (c .before .before .before .before .before .pre) (c .before .before .before .loop .inv) (c .before .before .loop-test .taken), c .before .before .before .before .before .pre .coded)
+upstream-of-requires : tie.Need-upstream-of-requires Inv-loop μ-loop
+upstream-of-requires c κs = (later-place (c .before .before .before .before .before .pre) (c .before .before .before .loop .inv) (c .before .before .loop-test .taken), c .before .before .before .before .before .pre .coded)
 
 weight-of-requires : tie.Need-weight-of-requires Inv-loop μ-loop
 weight-of-requires c κs = later-place (c .before .before .before .before .before .before .before .pre) (c .before .before .before .before .before .loop .inv) (c .before .before .before .before .loop-test .taken)
 
-worst-of-requires : tie.Need-worst-of-requires Inv-loop μ-loop
-worst-of-requires c κs = later-place (c .before .before .before .before .before .before .before .before .before .pre) (c .before .before .before .before .before .before .before .loop .inv) (c .before .before .before .before .before .before .loop-test .taken)
+in-series-of-requires : tie.Need-in-series-of-requires Inv-loop μ-loop
+in-series-of-requires c κs = later-place (c .before .before .before .before .before .before .before .before .before .pre) (c .before .before .before .before .before .before .before .loop .inv) (c .before .before .before .before .before .before .loop-test .taken)
 
 keep-requires : tie.Need-keep-requires Inv-loop μ-loop
 keep-requires c κs = (c .before .before .before .before .before .before .before .before .before .before .loop .inv .savedLong, omega (arith, c .before .before .before .before .before .before .before .before .before .before .before .before .pre .few), place-few (c .before .before .before .before .before .before .before .before .before .before .before .before .pre) (c .before .before .before .before .before .before .before .before .before .before .loop .inv) (c .before .before .before .before .before .before .before .before .before .loop-test .taken))
 
 put-requires : tie.Need-put-requires Inv-loop μ-loop
-put-requires c κs = (c .before .before .before .before .before .before .before .before .before .before .before .before .loop .inv .levelLong, place-few (c .before .before .before .before .before .before .before .before .before .before .before .before .before .before .pre) (c .before .before .before .before .before .before .before .before .before .before .before .before .loop .inv) (c .before .before .before .before .before .before .before .before .before .before .before .loop-test .taken))
+put-requires c κs = (c .before .before .before .before .before .before .before .before .before .before .before .before .loop .inv .outlookLong, place-few (c .before .before .before .before .before .before .before .before .before .before .before .before .before .before .pre) (c .before .before .before .before .before .before .before .before .before .before .before .before .loop .inv) (c .before .before .before .before .before .before .before .before .before .before .before .loop-test .taken))
 
 add-i : tie.Need-add-i Inv-loop μ-loop
 add-i c = omega (arith, row (c .before .before .before .before .before .before .before .before .before .before .before .before .before .before .before .pre) .few, c .before .before .before .before .before .before .before .before .before .before .before .before .before .loop .inv .all, c .before .before .before .before .before .before .before .before .before .before .before .before .loop-test .taken)
@@ -62,7 +62,7 @@ loop-less : tie.Need-loop-less Inv-loop μ-loop
 loop-less c = omega (arith, c .before .before .before .before .before .before .before .before .before .before .before .before .loop-test .taken)
 
 loop-again : tie.Need-loop-again Inv-loop μ-loop
-loop-again c = written-more (c .before .before .before .before .before .before .before .before .before .before .before .before .before .before .before .pre) (c .before .before .before .before .before .before .before .before .before .before .before .before .before .loop .inv) (c .before .before .before .before .before .before .before .before .before .before .before .before .loop-test .taken) (c .before .before .before .before .before .before .before .before .before .near-of .ensures) (c .before .before .before .before .before .before .before .weight-of .ensures) (c .before .before .before .before .before .worst-of .ensures) (c .before .before .keep .ensures) (c .put .ensures)
+loop-again c = written-more (c .before .before .before .before .before .before .before .before .before .before .before .before .before .before .before .pre) (c .before .before .before .before .before .before .before .before .before .before .before .before .before .loop .inv) (c .before .before .before .before .before .before .before .before .before .before .before .before .loop-test .taken) (c .before .before .before .before .before .before .before .before .before .upstream-of .ensures) (c .before .before .before .before .before .before .before .weight-of .ensures) (c .before .before .before .before .before .in-series-of .ensures) (c .before .before .keep .ensures) (c .put .ensures)
 
 returns : tie.Need-returns Inv-loop μ-loop
 returns c = written-all (c .before .before .before .pre) (c .before .loop .inv) (c .loop-test .left)
@@ -82,9 +82,9 @@ enter-spec =
     add-place
     mul-place
     element-copy-out-place
-    near-of-requires
+    upstream-of-requires
     weight-of-requires
-    worst-of-requires
+    in-series-of-requires
     keep-requires
     put-requires
     add-i

@@ -6,23 +6,23 @@ use borrow.Author.Needs.{needs}
 use Rattle.prospects.proofs.fall.Statement.{statement}
 use Rattle.prospects.proofs.fall.Tie as tie
 
-near-of-requires : tie.Need-near-of-requires
-near-of-requires c κs = search needs
+upstream-of-requires : tie.Need-upstream-of-requires
+upstream-of-requires c κs = search needs
 
 place-line-requires : tie.Need-place-line-requires
 place-line-requires c κs = search needs
 
 add-spared : tie.Need-add-spared
-add-spared c = omega (arith, line-there (c .before .before .pre .0) (c .before .near-of .ensures))
+add-spared c = omega (arith, line-there (c .before .before .pre .0) (c .before .upstream-of .ensures))
 
 sub-spared : tie.Need-sub-spared
-sub-spared c = line-there (c .before .before .pre .0) (c .before .near-of .ensures) .0
+sub-spared c = line-there (c .before .before .pre .0) (c .before .upstream-of .ensures) .0
 
 mul-spared : tie.Need-mul-spared
-mul-spared c = omega (arith, line-there (c .before .before .pre .0) (c .before .near-of .ensures))
+mul-spared c = omega (arith, line-there (c .before .before .pre .0) (c .before .upstream-of .ensures))
 
 element-copy-out-spared : tie.Need-element-copy-out-spared
-element-copy-out-spared c = omega (arith, line-there (c .before .before .pre .0) (c .before .near-of .ensures))
+element-copy-out-spared c = omega (arith, line-there (c .before .before .pre .0) (c .before .upstream-of .ensures))
 
 sub-spared-2 : tie.Need-sub-spared-2
 sub-spared-2 c = own-line (c .before .before .before .pre .0) (c .before .place-line .ensures) .0
@@ -34,7 +34,7 @@ element-copy-out-spared-2 : tie.Need-element-copy-out-spared-2
 element-copy-out-spared-2 c = omega (arith, own-line (c .before .before .before .pre .0) (c .before .place-line .ensures))
 
 sub-spared-3 : tie.Need-sub-spared-3
-sub-spared-3 c = no-fewer (c .before .before .before .before .pre .0) (c .before .before .before .near-of .ensures) (c .before .before .before .before .args .sums .now) (c .before .before .before .before .pre .2) (c .before .before .place-line .ensures)
+sub-spared-3 c = no-fewer (c .before .before .before .before .pre .0) (c .before .before .before .upstream-of .ensures) (c .before .before .before .before .args .sums .now) (c .before .before .before .before .pre .2) (c .before .before .place-line .ensures)
 
 weight-of-requires : tie.Need-weight-of-requires
 weight-of-requires c κs = search needs
@@ -48,19 +48,19 @@ new-requires-2 c κs = search needs
 times-requires : tie.Need-times-requires
 times-requires c κs =
     let d = c .before .before .before .before .before .before .before in
-    omega (arith, ap (λ n. n * c .new2 .result .0) (c .before .new .ensures) ∙ ap (λ n. c .before .before .weight-of .result * n) (c .new2 .ensures), fall-size (d .pre .0) (c .before .before .before .before .before .before .near-of .ensures) (d .args .sums .now) (d .pre .2) (c .before .before .before .before .before .place-line .ensures) (c .before .before .weight-of .ensures))
+    omega (arith, ap (λ n. n * c .new2 .result .0) (c .before .new .ensures) ∙ ap (λ n. c .before .before .weight-of .result * n) (c .new2 .ensures), fall-size (d .pre .0) (c .before .before .before .before .before .before .upstream-of .ensures) (d .args .sums .now) (d .pre .2) (c .before .before .before .before .before .place-line .ensures) (c .before .before .weight-of .ensures))
 
 returns : tie.Need-returns
 returns c =
     let d = c .before .before .before .before .before .before .before .before in
-    fall-is (d .pre .0) (c .before .before .before .before .before .before .before .near-of .ensures) (d .args .sums .now) (d .pre .2) (c .before .before .before .before .before .before .place-line .ensures) (c .before .before .before .weight-of .ensures)
+    fall-is (d .pre .0) (c .before .before .before .before .before .before .before .upstream-of .ensures) (d .args .sums .now) (d .pre .2) (c .before .before .before .before .before .before .place-line .ensures) (c .before .before .before .weight-of .ensures)
     (c .times .ensures ∙ ap (λ n. n * c .before .new2 .result .0) (c .before .before .new .ensures) ∙ ap (λ n. c .before .before .before .weight-of .result * n) (c .before .new2 .ensures))
 
 pub fall-spec : {M : Type 1} → statement M
 fall-spec =
     tie.close
     (tie.spec
-    near-of-requires
+    upstream-of-requires
     place-line-requires
     add-spared
     sub-spared

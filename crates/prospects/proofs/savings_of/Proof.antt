@@ -7,16 +7,16 @@ use Rattle.prospects.proofs.savings_of.Statement.{statement}
 use Rattle.prospects.proofs.savings_of.Tie as tie
 
 abbrev Inv-loop : tie.InvT-loop
-Inv-loop net relations ends sums level savings₀ none i₀ i-end savings i = Saved (networkIn net) i i-end savings
+Inv-loop net relations ends sums outlook savings₀ none i₀ i-end savings i = Saved (networkIn net) i i-end savings
 
 abbrev μ-loop : tie.MeasureT-loop
-μ-loop net relations ends sums level savings₀ none i₀ i-end savings i = i-end - i
+μ-loop net relations ends sums outlook savings₀ none i₀ i-end savings i = i-end - i
 
-places-requires : tie.Need-places-requires Inv-loop μ-loop
-places-requires c κs = tt
+place-count-requires : tie.Need-place-count-requires Inv-loop μ-loop
+place-count-requires c κs = tt
 
 loop-holds : tie.Need-loop-holds Inv-loop μ-loop
-loop-holds c = saved-none (networkIn (c .before .args .net .now)) (c .places .result) (c .before .args .savings .now) (c .before .pre .0 .accepted) (c .places .ensures) (c .before .pre .2)
+loop-holds c = saved-none (networkIn (c .before .args .net .now)) (c .place-count .result) (c .before .args .savings .now) (c .before .pre .0 .accepted) (c .place-count .ensures) (c .before .pre .2)
 
 add-fall : tie.Need-add-fall Inv-loop μ-loop
 add-fall c = omega arith
@@ -26,7 +26,7 @@ fall-requires c κs =
     let d = c .before .before .before .before in
     let t = d .pre .0 in
     let N = networkIn (d .args .net .now) in
-    (next-later N (c .before .before .loop .inv) (c .before .loop-test .taken) (d .args .relations .now) (d .args .level .now) (t .accepted) (t .related) (d .pre .1), t .coded, t .behind)
+    (next-later N (c .before .before .loop .inv) (c .before .loop-test .taken) (d .args .relations .now) (d .args .outlook .now) (t .accepted) (t .related) (d .pre .1), t .coded, t .behind)
 
 number-requires : tie.Need-number-requires Inv-loop μ-loop
 number-requires c κs = tt
@@ -57,7 +57,7 @@ savings-of-spec =
     (tie.spec
     Inv-loop
     μ-loop
-    places-requires
+    place-count-requires
     loop-holds
     add-fall
     fall-requires

@@ -15,8 +15,8 @@ returns : tie.Need-returns
 unfolding readSays
 returns c =
     let a = c .before .before .before .before .before .before .before .before .before .before .args in
-    let s = c .before .before .before .before .before .before .before .stations in
-    let l = c .before .before .before .before .before .lines in
+    let s = c .before .before .before .before .before .before .before .station-count in
+    let l = c .before .before .before .before .before .line-count in
     let r₁ = c .before .before .before .read-stations in
     stations-stopped (networkIn (a .net .now) .head) (s .result) (l .result) (s .ensures ∙ stations-counted (a .net .now)) (l .ensures ∙ lines-counted (a .net .now)) (recordsOf (drop (a .from) (a .file .now))) _ _ (says-stopped (a .file .now) (r₁ .result) _ _ (r₁ .ensures .0) _ _ (c .before .step .given .1))
 
@@ -30,8 +30,8 @@ returns-2 : tie.Need-returns-2
 unfolding readSays
 returns-2 c =
     let a = c .before .before .before .before .before .before .before .before .before .before .before .before .before .before .before .args in
-    let s = c .before .before .before .before .before .before .before .before .before .before .before .before .stations in
-    let l = c .before .before .before .before .before .before .before .before .before .before .lines in
+    let s = c .before .before .before .before .before .before .before .before .before .before .before .before .station-count in
+    let l = c .before .before .before .before .before .before .before .before .before .before .line-count in
     let r₁ = c .before .before .before .before .before .before .before .before .read-stations in
     let t₁ = c .before .before .before .before .before .before .step2 in
     let r₂ = c .before .before .before .read-lines in
@@ -42,8 +42,8 @@ returns-2 c =
 read-places-requires : tie.Need-read-places-requires
 read-places-requires c κs =
     let a = c .before .before .before .before .before .before .before .before .before .before .before .before .before .before .before .before .args in
-    let s = c .before .before .before .before .before .before .before .before .before .before .before .before .before .stations in
-    let l = c .before .before .before .before .before .before .before .before .before .before .before .lines in
+    let s = c .before .before .before .before .before .before .before .before .before .before .before .before .before .station-count in
+    let l = c .before .before .before .before .before .before .before .before .before .before .before .line-count in
     let r₁ = c .before .before .before .before .before .before .before .before .before .read-stations in
     let t₁ = c .before .before .before .before .before .before .before .step2 in
     let r₂ = c .before .before .before .before .read-lines in
@@ -54,8 +54,8 @@ read-places-requires c κs =
 returns-3 : tie.Need-returns-3
 returns-3 c =
     let a = c .before .before .before .before .before .before .before .before .before .before .before .before .before .before .before .before .before .args in
-    let s = c .before .before .before .before .before .before .before .before .before .before .before .before .before .before .stations in
-    let l = c .before .before .before .before .before .before .before .before .before .before .before .before .lines in
+    let s = c .before .before .before .before .before .before .before .before .before .before .before .before .before .before .station-count in
+    let l = c .before .before .before .before .before .before .before .before .before .before .before .before .line-count in
     let r₁ = c .before .before .before .before .before .before .before .before .before .before .read-stations in
     let t₁ = c .before .before .before .before .before .before .before .before .step2 in
     let r₂ = c .before .before .before .before .before .read-lines in

@@ -34,7 +34,7 @@ loop-holds c =
     let k = c .before .before .before .before .keep-places in
     let N = networkIn (a .net .now) in
     let N₀ = networkIn (k .last .0) in
-    (c .before .before .stations .ensures, c .lines .ensures, fits-start N N₀ (k .ensures) (c .before .before .before .before .before .before .before .pre .1) (c .before .before .before .before .before .before .before .pre .2), refl, omega arith, at-start N N₀ (k .ensures) (a .file .now) (a .from))
+    (c .before .before .station-count .ensures, c .line-count .ensures, fits-start N N₀ (k .ensures) (c .before .before .before .before .before .before .before .pre .1) (c .before .before .before .before .before .before .before .pre .2), refl, omega arith, at-start N N₀ (k .ensures) (a .file .now) (a .from))
 
 read-record-requires : tie.Need-read-record-requires Inv-loop μ-loop
 unfolding rows rowP
@@ -46,7 +46,7 @@ returns c =
     let a = c .before .before .before .before .before .before .before .before .before .before .before .before .before .before .before .before .before .args in
     let l = c .before .before .before .before .before .before .before .before .before .loop in
     let N = networkIn (l .net) in
-    let p = c .before .before .before .before .before .before .places in
+    let p = c .before .before .before .before .before .before .place-count in
     let r = c .before .before .before .before .read-record in
     let v = r .last .1 .1 .1 .1 .1 .1 .0 in
     let t = c .before .step in
@@ -60,7 +60,7 @@ well-placed-requires c κs =
     let a = c .before .before .before .before .before .before .before .before .before .before .before .before .before .before .before .before .before .before .before .before .args in
     let l = c .before .before .before .before .before .before .before .before .before .before .before .before .loop in
     let N = networkIn (l .net) in
-    let p = c .before .before .before .before .before .before .before .before .before .places in
+    let p = c .before .before .before .before .before .before .before .before .before .place-count in
     let r = c .before .before .before .before .before .before .before .read-record in
     let v = r .last .1 .1 .1 .1 .1 .1 .0 in
     let t = c .before .before .before .before .step2 in
@@ -73,7 +73,7 @@ returns-2 c =
     let a = c .before .before .before .before .before .before .before .before .before .before .before .before .before .before .before .before .before .before .before .before .before .before .args in
     let l = c .before .before .before .before .before .before .before .before .before .before .before .before .before .before .loop in
     let N = networkIn (l .net) in
-    let p = c .before .before .before .before .before .before .before .before .before .before .before .places in
+    let p = c .before .before .before .before .before .before .before .before .before .before .before .place-count in
     let r = c .before .before .before .before .before .before .before .before .before .read-record in
     let v = r .last .1 .1 .1 .1 .1 .1 .0 in
     let t = c .before .before .before .before .before .before .step2 in
@@ -86,7 +86,7 @@ returns-2 c =
 add-place-requires : tie.Need-add-place-requires Inv-loop μ-loop
 add-place-requires c κs =
     let l = c .before .before .before .before .before .before .before .before .before .before .before .before .before .before .before .loop in
-    let p = c .before .before .before .before .before .before .before .before .before .before .before .before .places in
+    let p = c .before .before .before .before .before .before .before .before .before .before .before .before .place-count in
     let w = c .before .before .well-placed in
     let few = not-65th (networkIn (l .net) .lines) (p .result) (placeOf (l .before)) _ (sym (not-false (w .result) (c .before .if1 .left)) ∙ w .ensures) in
     (l .inv .2, omega (arith, few, p .ensures))
@@ -105,7 +105,7 @@ loop-again c =
     let a = c .before .before .before .before .before .before .before .before .before .before .before .before .before .before .before .before .before .before .before .before .before .before .before .before .args in
     let l = c .before .before .before .before .before .before .before .before .before .before .before .before .before .before .before .before .loop in
     let N = networkIn (l .net) in
-    let p = c .before .before .before .before .before .before .before .before .before .before .before .before .before .places in
+    let p = c .before .before .before .before .before .before .before .before .before .before .before .before .before .place-count in
     let r = c .before .before .before .before .before .before .before .before .before .before .before .read-record in
     let v = r .last .1 .1 .1 .1 .1 .1 .0 in
     let t = c .before .before .before .before .before .before .before .before .step2 in

@@ -50,7 +50,7 @@ returns c =
     let l = c .before .before .before .before .place-line .result in
     let t = c .before .before .before .place-side .result in
     let i = place-line N (s .pre .0) (g .place) l (s .pre .4) (c .before .before .before .before .place-line .ensures) in
-    above-far N (s .pre .0) (g .near .now) (g .feed .now) (g .marks .now) (g .firsts .now) (s .pre .1) (s .pre .2) (s .pre .3) l t (i .0) (i .1) (c .before .if1 .taken) ∙ place-end N (s .pre .0) (g .place) l t (c .before .before .before .before .place-line .ensures) (c .before .before .before .place-side .ensures)
+    above-far N (s .pre .0) (g .sides .now) (g .feeders .now) (g .marks .now) (g .firsts .now) (s .pre .1) (s .pre .2) (s .pre .3) l t (i .0) (i .1) (c .before .if1 .taken) ∙ place-end N (s .pre .0) (g .place) l t (c .before .before .before .before .place-line .ensures) (c .before .before .before .place-side .ensures)
 
 sub-feeder : tie.Need-sub-feeder
 sub-feeder c =
@@ -75,7 +75,7 @@ returns-2 c =
     let l = c .before .before .before .before .before .place-line .result in
     let t = c .before .before .before .before .place-side .result in
     let i = place-line N (s .pre .0) (g .place) l (s .pre .4) (c .before .before .before .before .before .place-line .ensures) in
-    above-hv N (s .pre .0) (g .near .now) (g .feed .now) (g .marks .now) (g .firsts .now) (s .pre .1) (s .pre .2) (s .pre .3) l t (i .0) (i .1) (c .before .before .if1 .left) (c .if2 .taken) ∙ place-end N (s .pre .0) (g .place) l t (c .before .before .before .before .before .place-line .ensures) (c .before .before .before .before .place-side .ensures)
+    above-hv N (s .pre .0) (g .sides .now) (g .feeders .now) (g .marks .now) (g .firsts .now) (s .pre .1) (s .pre .2) (s .pre .3) l t (i .0) (i .1) (c .before .before .if1 .left) (c .if2 .taken) ∙ place-end N (s .pre .0) (g .place) l t (c .before .before .before .before .before .place-line .ensures) (c .before .before .before .before .place-side .ensures)
 
 mul-code : tie.Need-mul-code
 mul-code c =
@@ -85,7 +85,7 @@ mul-code c =
     let l = c .before .before .before .before .before .place-line .result in
     let t = c .before .before .before .before .place-side .result in
     let i = place-line N (s .pre .0) (g .place) l (s .pre .4) (c .before .before .before .before .before .place-line .ensures) in
-    omega (arith, i, feeder-near N (s .pre .0) (g .near .now) (g .feed .now) (g .marks .now) (g .firsts .now) (s .pre .1) (s .pre .2) (s .pre .3) l t (i .0) (i .1) (c .before .before .if1 .left) (c .if2 .left))
+    omega (arith, i, feeder-near N (s .pre .0) (g .sides .now) (g .feeders .now) (g .marks .now) (g .firsts .now) (s .pre .1) (s .pre .2) (s .pre .3) l t (i .0) (i .1) (c .before .before .if1 .left) (c .if2 .left))
 
 add-code : tie.Need-add-code
 add-code c =
@@ -95,7 +95,7 @@ add-code c =
     let l = c .before .before .before .before .before .place-line .result in
     let t = c .before .before .before .before .place-side .result in
     let i = place-line N (s .pre .0) (g .place) l (s .pre .4) (c .before .before .before .before .before .place-line .ensures) in
-    omega (arith, i, feeder-near N (s .pre .0) (g .near .now) (g .feed .now) (g .marks .now) (g .firsts .now) (s .pre .1) (s .pre .2) (s .pre .3) l t (i .0) (i .1) (c .before .before .if1 .left) (c .if2 .left))
+    omega (arith, i, feeder-near N (s .pre .0) (g .sides .now) (g .feeders .now) (g .marks .now) (g .firsts .now) (s .pre .1) (s .pre .2) (s .pre .3) l t (i .0) (i .1) (c .before .before .if1 .left) (c .if2 .left))
 
 sub-code : tie.Need-sub-code
 sub-code c = search needs
@@ -108,7 +108,7 @@ mul-code-2 c =
     let l = c .before .before .before .before .before .place-line .result in
     let t = c .before .before .before .before .place-side .result in
     let i = place-line N (s .pre .0) (g .place) l (s .pre .4) (c .before .before .before .before .before .place-line .ensures) in
-    omega (arith, i, feeder-near N (s .pre .0) (g .near .now) (g .feed .now) (g .marks .now) (g .firsts .now) (s .pre .1) (s .pre .2) (s .pre .3) l t (i .0) (i .1) (c .before .before .if1 .left) (c .if2 .left))
+    omega (arith, i, feeder-near N (s .pre .0) (g .sides .now) (g .feeders .now) (g .marks .now) (g .firsts .now) (s .pre .1) (s .pre .2) (s .pre .3) l t (i .0) (i .1) (c .before .before .if1 .left) (c .if2 .left))
 
 element-copy-out-code : tie.Need-element-copy-out-code
 element-copy-out-code c =
@@ -118,7 +118,7 @@ element-copy-out-code c =
     let l = c .before .before .before .before .before .place-line .result in
     let t = c .before .before .before .before .place-side .result in
     let i = place-line N (s .pre .0) (g .place) l (s .pre .4) (c .before .before .before .before .before .place-line .ensures) in
-    omega (arith, i, feeder-near N (s .pre .0) (g .near .now) (g .feed .now) (g .marks .now) (g .firsts .now) (s .pre .1) (s .pre .2) (s .pre .3) l t (i .0) (i .1) (c .before .before .if1 .left) (c .if2 .left))
+    omega (arith, i, feeder-near N (s .pre .0) (g .sides .now) (g .feeders .now) (g .marks .now) (g .firsts .now) (s .pre .1) (s .pre .2) (s .pre .3) l t (i .0) (i .1) (c .before .before .if1 .left) (c .if2 .left))
 
 sub-code-2 : tie.Need-sub-code-2
 sub-code-2 c =
@@ -128,7 +128,7 @@ sub-code-2 c =
     let l = c .before .before .before .before .before .before .place-line .result in
     let t = c .before .before .before .before .before .place-side .result in
     let i = place-line N (s .pre .0) (g .place) l (s .pre .4) (c .before .before .before .before .before .before .place-line .ensures) in
-    omega (arith, i, feeder-near N (s .pre .0) (g .near .now) (g .feed .now) (g .marks .now) (g .firsts .now) (s .pre .1) (s .pre .2) (s .pre .3) l t (i .0) (i .1) (c .before .before .before .if1 .left) (c .before .if2 .left))
+    omega (arith, i, feeder-near N (s .pre .0) (g .sides .now) (g .feeders .now) (g .marks .now) (g .firsts .now) (s .pre .1) (s .pre .2) (s .pre .3) l t (i .0) (i .1) (c .before .before .before .if1 .left) (c .before .if2 .left))
 
 sub-first-from : tie.Need-sub-first-from
 sub-first-from c =
@@ -138,7 +138,7 @@ sub-first-from c =
     let l = c .before .before .before .before .before .before .place-line .result in
     let t = c .before .before .before .before .before .place-side .result in
     let i = place-line N (s .pre .0) (g .place) l (s .pre .4) (c .before .before .before .before .before .before .place-line .ensures) in
-    omega (arith, i, feeder-near N (s .pre .0) (g .near .now) (g .feed .now) (g .marks .now) (g .firsts .now) (s .pre .1) (s .pre .2) (s .pre .3) l t (i .0) (i .1) (c .before .before .before .if1 .left) (c .before .if2 .left))
+    omega (arith, i, feeder-near N (s .pre .0) (g .sides .now) (g .feeders .now) (g .marks .now) (g .firsts .now) (s .pre .1) (s .pre .2) (s .pre .3) l t (i .0) (i .1) (c .before .before .before .if1 .left) (c .before .if2 .left))
 
 mul-first-from : tie.Need-mul-first-from
 mul-first-from c =
@@ -148,7 +148,7 @@ mul-first-from c =
     let l = c .before .before .before .before .before .before .place-line .result in
     let t = c .before .before .before .before .before .place-side .result in
     let i = place-line N (s .pre .0) (g .place) l (s .pre .4) (c .before .before .before .before .before .before .place-line .ensures) in
-    omega (arith, i, feeder-near N (s .pre .0) (g .near .now) (g .feed .now) (g .marks .now) (g .firsts .now) (s .pre .1) (s .pre .2) (s .pre .3) l t (i .0) (i .1) (c .before .before .before .if1 .left) (c .before .if2 .left))
+    omega (arith, i, feeder-near N (s .pre .0) (g .sides .now) (g .feeders .now) (g .marks .now) (g .firsts .now) (s .pre .1) (s .pre .2) (s .pre .3) l t (i .0) (i .1) (c .before .before .before .if1 .left) (c .before .if2 .left))
 
 element-copy-out-first-from : tie.Need-element-copy-out-first-from
 element-copy-out-first-from c =
@@ -158,7 +158,7 @@ element-copy-out-first-from c =
     let l = c .before .before .before .before .before .before .place-line .result in
     let t = c .before .before .before .before .before .place-side .result in
     let i = place-line N (s .pre .0) (g .place) l (s .pre .4) (c .before .before .before .before .before .before .place-line .ensures) in
-    omega (arith, i, feeder-near N (s .pre .0) (g .near .now) (g .feed .now) (g .marks .now) (g .firsts .now) (s .pre .1) (s .pre .2) (s .pre .3) l t (i .0) (i .1) (c .before .before .before .if1 .left) (c .before .if2 .left))
+    omega (arith, i, feeder-near N (s .pre .0) (g .sides .now) (g .feeders .now) (g .marks .now) (g .firsts .now) (s .pre .1) (s .pre .2) (s .pre .3) l t (i .0) (i .1) (c .before .before .before .if1 .left) (c .before .if2 .left))
 
 first-from-requires : tie.Need-first-from-requires
 first-from-requires c κs =
@@ -168,7 +168,7 @@ first-from-requires c κs =
     let l = c .before .before .before .before .before .before .before .place-line .result in
     let t = c .before .before .before .before .before .before .place-side .result in
     let i = place-line N (s .pre .0) (g .place) l (s .pre .4) (c .before .before .before .before .before .before .before .place-line .ensures) in
-    omega (arith, i, feeder-near N (s .pre .0) (g .near .now) (g .feed .now) (g .marks .now) (g .firsts .now) (s .pre .1) (s .pre .2) (s .pre .3) l t (i .0) (i .1) (c .before .before .before .before .if1 .left) (c .before .before .if2 .left))
+    omega (arith, i, feeder-near N (s .pre .0) (g .sides .now) (g .feeders .now) (g .marks .now) (g .firsts .now) (s .pre .1) (s .pre .2) (s .pre .3) l t (i .0) (i .1) (c .before .before .before .before .if1 .left) (c .before .before .if2 .left))
 
 returns-3 : tie.Need-returns-3
 returns-3 c =
@@ -178,7 +178,7 @@ returns-3 c =
     let l = c .before .before .before .before .before .before .before .before .place-line .result in
     let t = c .before .before .before .before .before .before .before .place-side .result in
     let i = place-line N (s .pre .0) (g .place) l (s .pre .4) (c .before .before .before .before .before .before .before .before .place-line .ensures) in
-    above-fed N (s .pre .0) (g .near .now) (g .feed .now) (g .marks .now) (g .firsts .now) (s .pre .1) (s .pre .2) (s .pre .3) l t (i .0) (i .1) (c .before .before .before .before .before .if1 .left) (c .before .before .before .if2 .left) (c .first-from .result) (c .first-from .ensures) ∙ place-end N (s .pre .0) (g .place) l t (c .before .before .before .before .before .before .before .before .place-line .ensures) (c .before .before .before .before .before .before .before .place-side .ensures)
+    above-fed N (s .pre .0) (g .sides .now) (g .feeders .now) (g .marks .now) (g .firsts .now) (s .pre .1) (s .pre .2) (s .pre .3) l t (i .0) (i .1) (c .before .before .before .before .before .if1 .left) (c .before .before .before .if2 .left) (c .first-from .result) (c .first-from .ensures) ∙ place-end N (s .pre .0) (g .place) l t (c .before .before .before .before .before .before .before .before .place-line .ensures) (c .before .before .before .before .before .before .before .place-side .ensures)
 
 pub above-of-spec : {M : Type 1} → statement M
 above-of-spec =

@@ -12,10 +12,10 @@ use Rattle.relations.proofs.climb.Statement.{statement}
 use Rattle.relations.proofs.climb.Tie as tie
 
 abbrev Inv-loop : tie.InvT-loop
-Inv-loop net near feed marks firsts relations₀ place above₀ relations above = Climbed (length (networkIn net .places)) (isAbove (networkIn net)) place above relations₀ relations
+Inv-loop net sides feeders marks firsts relations₀ place above₀ relations above = Climbed (length (networkIn net .places)) (isAbove (networkIn net)) place above relations₀ relations
 
 abbrev μ-loop : tie.MeasureT-loop
-μ-loop net near feed marks firsts relations₀ place above₀ relations above = level (λ p. length (onward (networkIn net) (endAt (networkIn net) p))) above
+μ-loop net sides feeders marks firsts relations₀ place above₀ relations above = level (λ p. length (onward (networkIn net) (endAt (networkIn net) p))) above
 
 above-of-requires : tie.Need-above-of-requires Inv-loop μ-loop
 above-of-requires c κs = (c .pre .0, c .pre .1, c .pre .2, c .pre .3, c .pre .4)

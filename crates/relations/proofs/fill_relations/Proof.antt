@@ -13,16 +13,16 @@ use Rattle.relations.proofs.fill_relations.Statement.{statement}
 use Rattle.relations.proofs.fill_relations.Tie as tie
 
 abbrev Inv-loop : tie.InvT-loop
-Inv-loop net near feed marks firsts relations₀ place₀ place-end relations place = (place-end ≡ length (networkIn net .places) + 1) × (1 ≤ place) × (place ≤ place-end) × (length relations ≡ 4225) × ((k : ℕ) → k ≤ 64 → getD relations k 0 ≡ 0) × Related (length (networkIn net .places)) (isAbove (networkIn net)) place relations
+Inv-loop net sides feeders marks firsts relations₀ place₀ place-end relations place = (place-end ≡ length (networkIn net .places) + 1) × (1 ≤ place) × (place ≤ place-end) × (length relations ≡ 4225) × ((k : ℕ) → k ≤ 64 → getD relations k 0 ≡ 0) × Related (length (networkIn net .places)) (isAbove (networkIn net)) place relations
 
 abbrev μ-loop : tie.MeasureT-loop
-μ-loop net near feed marks firsts relations₀ place₀ place-end relations place = place-end - place
+μ-loop net sides feeders marks firsts relations₀ place₀ place-end relations place = place-end - place
 
 no-relations-requires : tie.Need-no-relations-requires Inv-loop μ-loop
 no-relations-requires c κs = search needs
 
-places-requires : tie.Need-places-requires Inv-loop μ-loop
-places-requires c κs = search needs
+place-count-requires : tie.Need-place-count-requires Inv-loop μ-loop
+place-count-requires c κs = search needs
 
 add-place-end : tie.Need-add-place-end Inv-loop μ-loop
 add-place-end c = search needs
@@ -73,7 +73,7 @@ fill-relations-spec =
     Inv-loop
     μ-loop
     no-relations-requires
-    places-requires
+    place-count-requires
     add-place-end
     loop-holds
     climb-requires

@@ -19,8 +19,8 @@ Inv-loop net impacts buf₀ at₀ i₀ i-end buf at i =
 abbrev μ-loop : tie.MeasureT-loop
 μ-loop net impacts buf₀ at₀ i₀ i-end buf at i = i-end - i
 
-lines-requires : tie.Need-lines-requires Inv-loop μ-loop
-lines-requires c κs = search needs
+line-count-requires : tie.Need-line-count-requires Inv-loop μ-loop
+line-count-requires c κs = search needs
 
 loop-holds : tie.Need-loop-holds Inv-loop μ-loop
 loop-holds c = (search needs, omega arith, omega arith, listed-none _ _ _)
@@ -78,7 +78,7 @@ put-faults-spec =
     (tie.spec
     Inv-loop
     μ-loop
-    lines-requires
+    line-count-requires
     loop-holds
     add-put-fault
     sub-put-fault

@@ -14,11 +14,11 @@ use Rattle.search.proofs.goes_on.Tie as tie
 returns : tie.Need-returns
 returns c = (λ _. inl (c .if1 .taken), λ e. absurd (true≢false (sym e)))
 
-places-requires : tie.Need-places-requires
-places-requires c κs = search needs
+place-count-requires : tie.Need-place-count-requires
+place-count-requires c κs = search needs
 
 returns-2 : tie.Need-returns-2
-returns-2 c = (λ _. inr (inl (omega (arith, c .if2 .taken, c .before .places .ensures))), λ e. absurd (true≢false (sym e)))
+returns-2 c = (λ _. inr (inl (omega (arith, c .if2 .taken, c .before .place-count .ensures))), λ e. absurd (true≢false (sym e)))
 
 returns-3 : tie.Need-returns-3
 returns-3 c = (λ _. inr (inr (inl (c .if3 .taken))), λ e. absurd (true≢false (sym e)))
@@ -32,7 +32,7 @@ number-requires-2 c κs = search needs
 most-saved-requires : tie.Need-most-saved-requires
 most-saved-requires c κs =
     let d = c .before .before .before .before .before .before in
-    (d .pre .1, d .pre .0 .read .placeCount, omega (arith, c .before .before .before .before .before .if1 .left), d .pre .3, d .pre .4, omega (arith, c .before .before .before .if2 .left, c .before .before .before .before .places .ensures))
+    (d .pre .1, d .pre .0 .read .placeCount, omega (arith, c .before .before .before .before .before .if1 .left), d .pre .3, d .pre .4, omega (arith, c .before .before .before .if2 .left, c .before .before .before .before .place-count .ensures))
 
 add-result : tie.Need-add-result
 add-result c =
@@ -46,7 +46,7 @@ returns-4 c =
       λ e. inr (inr (inr (omega (arith, ltb-false (c .before .before .number .result) (c .before .number2 .result + bound) e, c .before .before .number .ensures, c .before .number2 .ensures, c .most-saved .ensures)))),
       λ e. record {
         some = c .before .before .before .before .before .before .if1 .left;
-        high = omega (arith, c .before .before .before .before .if2 .left, c .before .before .before .before .before .places .ensures);
+        high = omega (arith, c .before .before .before .before .if2 .left, c .before .before .before .before .before .place-count .ensures);
         unspent = c .before .before .before .if3 .left;
         hope = omega (arith, ltb-true (c .before .before .number .result) (c .before .number2 .result + bound) e, c .before .before .number .ensures, c .before .number2 .ensures, c .most-saved .ensures);
       },
@@ -57,7 +57,7 @@ goes-on-spec =
     tie.close
     (tie.spec
     returns
-    places-requires
+    place-count-requires
     returns-2
     returns-3
     number-requires

@@ -5,14 +5,14 @@ use borrow.Author.Needs.{needs}
 use Rattle.search.proofs.may_get.Statement.{statement}
 use Rattle.search.proofs.may_get.Tie as tie
 
-worst-of-requires : tie.Need-worst-of-requires
-worst-of-requires c κs = later (c .pre)
+in-series-of-requires : tie.Need-in-series-of-requires
+in-series-of-requires c κs = later (c .pre)
 
 series-requires : tie.Need-series-requires
 series-requires c κs = search needs
 
 returns : tie.Need-returns
-returns c = too-many (c .before .before .before .pre) (c .before .before .worst-of .ensures) (omega (arith, c .before .series .ensures, c .if1 .taken))
+returns c = too-many (c .before .before .before .pre) (c .before .before .in-series-of .ensures) (omega (arith, c .before .series .ensures, c .if1 .taken))
 
 cost-with-requires : tie.Need-cost-with-requires
 cost-with-requires c κs = search needs
@@ -24,13 +24,13 @@ within-means-requires : tie.Need-within-means-requires
 within-means-requires c κs = search needs
 
 returns-2 : tie.Need-returns-2
-returns-2 c = c .within-means .ensures ∙ few-enough (c .before .before .before .before .before .before .pre) (c .before .before .before .before .before .worst-of .ensures) (c .before .before .cost-with .ensures) (c .before .hours-with .ensures) (omega (arith, c .before .before .before .before .series .ensures, c .before .before .before .if1 .left))
+returns-2 c = c .within-means .ensures ∙ few-enough (c .before .before .before .before .before .before .pre) (c .before .before .before .before .before .in-series-of .ensures) (c .before .before .cost-with .ensures) (c .before .hours-with .ensures) (omega (arith, c .before .before .before .before .series .ensures, c .before .before .before .if1 .left))
 
 pub may-get-spec : {M : Type 1} → statement M
 may-get-spec =
     tie.close
     (tie.spec
-    worst-of-requires
+    in-series-of-requires
     series-requires
     returns
     cost-with-requires

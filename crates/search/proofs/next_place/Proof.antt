@@ -8,10 +8,10 @@ use Rattle.search.proofs.next_place.Statement.{statement}
 use Rattle.search.proofs.next_place.Tie as tie
 
 abbrev Inv-loop : tie.InvT-loop
-Inv-loop net relations bounds level set current by from left found place₀ place = Passed (networkIn net) (take (current .size) set) from left found place
+Inv-loop net relations bounds outlook set current pending from left found place₀ place = Passed (networkIn net) (take (current .size) set) from left found place
 
 abbrev μ-loop : tie.MeasureT-loop
-μ-loop net relations bounds level set current by from left found place₀ place = length (networkIn net .places) + 1 - place
+μ-loop net relations bounds outlook set current pending from left found place₀ place = length (networkIn net .places) + 1 - place
 
 loop-holds : tie.Need-loop-holds Inv-loop μ-loop
 loop-holds c = passed-none (c .pre)

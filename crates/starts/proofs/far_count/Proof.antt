@@ -18,13 +18,13 @@ sub-end-state-2 : tie.Need-sub-end-state-2
 sub-end-state-2 c =
     let s = c .before in
     let g = s .args in
-    omega (arith, near-side (g .net .now) (g .near .now) (s .pre .0) (s .pre .1) (g .line) (s .pre .3))
+    omega (arith, near-side (g .net .now) (g .sides .now) (s .pre .0) (s .pre .1) (g .line) (s .pre .3))
 
 end-state-requires : tie.Need-end-state-requires
 end-state-requires c κs =
     let s = c .before in
     let g = s .args in
-    far-there (g .net .now) (g .near .now) (s .pre .0) (s .pre .1) (g .line) (s .pre .3)
+    far-there (g .net .now) (g .sides .now) (s .pre .0) (s .pre .1) (g .line) (s .pre .3)
 
 sub-result : tie.Need-sub-result
 sub-result c = search needs
@@ -39,7 +39,7 @@ add-result : tie.Need-add-result
 add-result c =
     let s = c .before .before .before .before in
     let g = s .args in
-    omega (arith, count-few (g .net .now) (g .near .now) (s .pre .0) (s .pre .1) (g .line) (s .pre .3) (g .counts .now) (s .pre .2))
+    omega (arith, count-few (g .net .now) (g .sides .now) (s .pre .0) (s .pre .1) (g .line) (s .pre .3) (g .counts .now) (s .pre .2))
 
 sub-result-2 : tie.Need-sub-result-2
 sub-result-2 c = search needs
@@ -54,13 +54,13 @@ returns : tie.Need-returns
 returns c =
     let s = c .before .before .before .before in
     let g = s .args in
-    counted-far (g .net .now) (g .near .now) (s .pre .0) (s .pre .1) (g .line) (s .pre .3) (g .counts .now) (s .pre .2) (sym (c .before .before .end-state .ensures) ∙ c .before .if1 .taken)
+    counted-far (g .net .now) (g .sides .now) (s .pre .0) (s .pre .1) (g .line) (s .pre .3) (g .counts .now) (s .pre .2) (sym (c .before .before .end-state .ensures) ∙ c .before .if1 .taken)
 
 returns-2 : tie.Need-returns-2
 returns-2 c =
     let s = c .before .before .before .before in
     let g = s .args in
-    counted-line (g .net .now) (g .near .now) (s .pre .0) (s .pre .1) (g .line) (s .pre .3) (g .counts .now) (s .pre .2) (λ e. c .before .if1 .left (c .before .before .end-state .ensures ∙ e))
+    counted-line (g .net .now) (g .sides .now) (s .pre .0) (s .pre .1) (g .line) (s .pre .3) (g .counts .now) (s .pre .2) (λ e. c .before .if1 .left (c .before .before .end-state .ensures ∙ e))
 
 pub far-count-spec : {M : Type 1} → statement M
 far-count-spec =

@@ -4,19 +4,19 @@ use native.Mathlib.Omega.{arith}
 use lib.ListN.{length, length-set}
 use borrow.Author.Needs.{needs}
 use Rattle.buffer.specs.Buffer.{networkIn}
-use Rattle.starts.proofs.LevelZero.{Valued, valued-more, valued-all}
+use Rattle.starts.proofs.FirstOutlook.{Valued, valued-more, valued-all}
 use Rattle.starts.proofs.fill_values.Statement.{statement}
 use Rattle.starts.proofs.fill_values.Tie as tie
 
 abbrev Inv-loop : tie.InvT-loop
-Inv-loop net relations own worst level₀ p₀ p-end level p =
-    (p-end ≡ length (networkIn net .places) + 1) × (1 ≤ p) × (p ≤ p-end) × (length level ≡ length level₀) × Valued (networkIn net) level p
+Inv-loop net relations own in-series outlook₀ p₀ p-end outlook p =
+    (p-end ≡ length (networkIn net .places) + 1) × (1 ≤ p) × (p ≤ p-end) × (length outlook ≡ length outlook₀) × Valued (networkIn net) outlook p
 
 abbrev μ-loop : tie.MeasureT-loop
-μ-loop net relations own worst level₀ p₀ p-end level p = p-end - p
+μ-loop net relations own in-series outlook₀ p₀ p-end outlook p = p-end - p
 
-places-requires : tie.Need-places-requires Inv-loop μ-loop
-places-requires c κs = search needs
+place-count-requires : tie.Need-place-count-requires Inv-loop μ-loop
+place-count-requires c κs = search needs
 
 add-p-end : tie.Need-add-p-end Inv-loop μ-loop
 add-p-end c = search needs
@@ -27,26 +27,26 @@ loop-holds c = search needs
 start-weight-requires : tie.Need-start-weight-requires Inv-loop μ-loop
 start-weight-requires c κs = search needs
 
-add-level : tie.Need-add-level Inv-loop μ-loop
-add-level c = search needs
+add-outlook : tie.Need-add-outlook Inv-loop μ-loop
+add-outlook c = search needs
 
-mul-level : tie.Need-mul-level Inv-loop μ-loop
-mul-level c = search needs
+mul-outlook : tie.Need-mul-outlook Inv-loop μ-loop
+mul-outlook c = search needs
 
-slice-write-level : tie.Need-slice-write-level Inv-loop μ-loop
-slice-write-level c = search needs
+slice-write-outlook : tie.Need-slice-write-outlook Inv-loop μ-loop
+slice-write-outlook c = search needs
 
-start-worst-requires : tie.Need-start-worst-requires Inv-loop μ-loop
-start-worst-requires c κs = search needs
+start-in-series-requires : tie.Need-start-in-series-requires Inv-loop μ-loop
+start-in-series-requires c κs = search needs
 
-add-level-2 : tie.Need-add-level-2 Inv-loop μ-loop
-add-level-2 c = search needs
+add-outlook-2 : tie.Need-add-outlook-2 Inv-loop μ-loop
+add-outlook-2 c = search needs
 
-mul-level-2 : tie.Need-mul-level-2 Inv-loop μ-loop
-mul-level-2 c = search needs
+mul-outlook-2 : tie.Need-mul-outlook-2 Inv-loop μ-loop
+mul-outlook-2 c = search needs
 
-slice-write-level-2 : tie.Need-slice-write-level-2 Inv-loop μ-loop
-slice-write-level-2 c = simp length-set (omega arith)
+slice-write-outlook-2 : tie.Need-slice-write-outlook-2 Inv-loop μ-loop
+slice-write-outlook-2 c = simp length-set (omega arith)
 
 add-p : tie.Need-add-p Inv-loop μ-loop
 add-p c = search needs
@@ -63,14 +63,14 @@ loop-again c =
       omega arith,
       omega arith,
       simp length-set (h .inv .3),
-      valued-more N (s .pre .0 .read .placeCount) (h .level) (h .p) (c .before .start-weight .result) (c .start-worst .result) (omega arith) (omega arith) (c .before .start-weight .ensures) (c .start-worst .ensures) (h .inv .4),
+      valued-more N (s .pre .0 .read .placeCount) (h .outlook) (h .p) (c .before .start-weight .result) (c .start-in-series .result) (omega arith) (omega arith) (c .before .start-weight .ensures) (c .start-in-series .ensures) (h .inv .4),
     )
 
 same-length : tie.Need-same-length Inv-loop μ-loop
 same-length c = search needs
 
 returns : tie.Need-returns Inv-loop μ-loop
-returns c = let h = c .before .loop in valued-all (networkIn (c .before .before .before .before .args .net .now)) (h .level) (h .p) (omega arith) (h .inv .4)
+returns c = let h = c .before .loop in valued-all (networkIn (c .before .before .before .before .args .net .now)) (h .outlook) (h .p) (omega arith) (h .inv .4)
 
 pub fill-values-spec : {M : Type 1} → statement M
 fill-values-spec =
@@ -78,17 +78,17 @@ fill-values-spec =
     (tie.spec
     Inv-loop
     μ-loop
-    places-requires
+    place-count-requires
     add-p-end
     loop-holds
     start-weight-requires
-    add-level
-    mul-level
-    slice-write-level
-    start-worst-requires
-    add-level-2
-    mul-level-2
-    slice-write-level-2
+    add-outlook
+    mul-outlook
+    slice-write-outlook
+    start-in-series-requires
+    add-outlook-2
+    mul-outlook-2
+    slice-write-outlook-2
     add-p
     loop-less
     loop-again

@@ -16,8 +16,8 @@ Inv-loop net stops own₀ line₀ line-end own line = (line-end ≡ length (netw
 abbrev μ-loop : tie.MeasureT-loop
 μ-loop net stops own₀ line₀ line-end own line = line-end - line
 
-lines-requires : tie.Need-lines-requires Inv-loop μ-loop
-lines-requires c κs = search needs
+line-count-requires : tie.Need-line-count-requires Inv-loop μ-loop
+line-count-requires c κs = search needs
 
 add-line-end : tie.Need-add-line-end Inv-loop μ-loop
 add-line-end c = search needs
@@ -93,7 +93,7 @@ own-weights-spec =
     (tie.spec
     Inv-loop
     μ-loop
-    lines-requires
+    line-count-requires
     add-line-end
     loop-holds
     sub-stop

@@ -16,15 +16,15 @@ use Rattle.starts.proofs.start_weight.Statement.{statement}
 use Rattle.starts.proofs.start_weight.Tie as tie
 
 abbrev Inv-loop : tie.InvT-loop
-Inv-loop net relations own nears p weight₀ s₀ s-end weight s =
+Inv-loop net relations own upstreams p weight₀ s₀ s-end weight s =
     (s-end ≡ length (networkIn net .places) + 1) × (1 ≤ s) × (s ≤ s-end)
-    × (weight + sumFrom (share relations own nears p) s s-end ≡ weightAt (networkIn net) [] (endAt (networkIn net) p))
+    × (weight + sumFrom (share relations own upstreams p) s s-end ≡ weightAt (networkIn net) [] (endAt (networkIn net) p))
 
 abbrev μ-loop : tie.MeasureT-loop
-μ-loop net relations own nears p weight₀ s₀ s-end weight s = s-end - s
+μ-loop net relations own upstreams p weight₀ s₀ s-end weight s = s-end - s
 
-places-requires : tie.Need-places-requires Inv-loop μ-loop
-places-requires c κs = search needs
+place-count-requires : tie.Need-place-count-requires Inv-loop μ-loop
+place-count-requires c κs = search needs
 
 add-s-end : tie.Need-add-s-end Inv-loop μ-loop
 add-s-end c = search needs
@@ -34,9 +34,9 @@ loop-holds c =
     let s = c .before .before in
     let g = s .args in
     let N = networkIn (g .net .now) in
-    let add = share (g .relations .now) (g .own .now) (g .nears .now) (g .p) in
-    let all = weighed-all N (s .pre .0) (g .relations .now) (g .own .now) (g .nears .now) (s .pre .1) (s .pre .2) (s .pre .3) (g .p) (s .pre .5 .low) (s .pre .5 .high) in
-    (omega arith, omega arith, omega arith, omega (arith, all, ap (sumFrom add 1) {x = c .places .result + 1} {y = length (N .places) + 1} (omega arith)))
+    let add = share (g .relations .now) (g .own .now) (g .upstreams .now) (g .p) in
+    let all = weighed-all N (s .pre .0) (g .relations .now) (g .own .now) (g .upstreams .now) (s .pre .1) (s .pre .2) (s .pre .3) (g .p) (s .pre .5 .low) (s .pre .5 .high) in
+    (omega arith, omega arith, omega arith, omega (arith, all, ap (sumFrom add 1) {x = c .place-count .result + 1} {y = length (N .places) + 1} (omega arith)))
 
 under-requires : tie.Need-under-requires Inv-loop μ-loop
 under-requires c κs = search needs
@@ -53,11 +53,11 @@ add-weight c =
     let g = s .args in
     let h = c .before .before .before .before .loop in
     let N = networkIn (g .net .now) in
-    let t = underIn (g .relations .now) (g .nears .now) (g .p) (h .s) in
+    let t = underIn (g .relations .now) (g .upstreams .now) (g .p) (h .s) in
     omega (
       arith,
       counted {a = t} (getD (g .own .now) (h .s) 0) (c .before .before .under .ensures) (c .before .if1 .taken),
-      sum-first (share (g .relations .now) (g .own .now) (g .nears .now) (g .p)) (h .s) (c .before .before .before .before .before .places .result + 1) (omega arith),
+      sum-first (share (g .relations .now) (g .own .now) (g .upstreams .now) (g .p)) (h .s) (c .before .before .before .before .before .place-count .result + 1) (omega arith),
       weight-few N (s .pre .0) (endAt N (g .p)),
     )
 
@@ -72,9 +72,9 @@ loop-again c =
     let s = c .before .before .before .before .before .before in
     let g = s .args in
     let h = c .before .before .before .loop in
-    let add = share (g .relations .now) (g .own .now) (g .nears .now) (g .p) in
+    let add = share (g .relations .now) (g .own .now) (g .upstreams .now) (g .p) in
     let own = getD (g .own .now) (h .s) 0 in
-    let t = underIn (g .relations .now) (g .nears .now) (g .p) (h .s) in
+    let t = underIn (g .relations .now) (g .upstreams .now) (g .p) (h .s) in
     let e : c .if1 .weight ≡ h .weight + add (h .s) = ⊎-elim
     (λ w. omega (arith, counted {a = t} own (c .before .under .ensures) (w .0 .taken)))
     (λ w. omega (arith, not-counted {a = t} own (c .before .under .ensures) (w .0 .left)))
@@ -84,7 +84,7 @@ loop-again c =
 returns : tie.Need-returns Inv-loop μ-loop
 returns c =
     let g = c .before .before .before .before .args in
-    omega (arith, c .before .loop .inv .3, sum-none (share (g .relations .now) (g .own .now) (g .nears .now) (g .p)) (c .before .loop .s) (c .before .before .places .result + 1) (omega arith))
+    omega (arith, c .before .loop .inv .3, sum-none (share (g .relations .now) (g .own .now) (g .upstreams .now) (g .p)) (c .before .loop .s) (c .before .before .place-count .result + 1) (omega arith))
 
 pub start-weight-spec : {M : Type 1} → statement M
 start-weight-spec =
@@ -92,7 +92,7 @@ start-weight-spec =
     (tie.spec
     Inv-loop
     μ-loop
-    places-requires
+    place-count-requires
     add-s-end
     loop-holds
     under-requires

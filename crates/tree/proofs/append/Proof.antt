@@ -5,10 +5,10 @@ use Rattle.tree.proofs.append.Statement.{statement}
 use Rattle.tree.proofs.append.Tie as tie
 
 abbrev Inv-loop : tie.InvT-loop
-Inv-loop nexts near₀ feed₀ order₀ first came fed count n₀ code₀ near feed order n code = Following nexts first came fed count near₀ feed₀ order₀ near feed order n code
+Inv-loop nexts near₀ feed₀ order₀ first came fed count n₀ code₀ sides feeders order n code = Following nexts first came fed count near₀ feed₀ order₀ sides feeders order n code
 
 abbrev μ-loop : tie.MeasureT-loop
-μ-loop nexts near₀ feed₀ order₀ first came fed count n₀ code₀ near feed order n code = codesLeft code
+μ-loop nexts near₀ feed₀ order₀ first came fed count n₀ code₀ sides feeders order n code = codesLeft code
 
 loop-holds : tie.Need-loop-holds Inv-loop μ-loop
 loop-holds c = following-start _ _ _ _ _ _ _ _ (c .pre)
@@ -16,36 +16,36 @@ loop-holds c = following-start _ _ _ _ _ _ _ _ (c .pre)
 add-line : tie.Need-add-line Inv-loop μ-loop
 add-line c = search needs
 
-add-near : tie.Need-add-near Inv-loop μ-loop
-add-near c = search needs
+add-sides : tie.Need-add-sides Inv-loop μ-loop
+add-sides c = search needs
 
-add-near-2 : tie.Need-add-near-2 Inv-loop μ-loop
-add-near-2 c = search needs
+add-sides-2 : tie.Need-add-sides-2 Inv-loop μ-loop
+add-sides-2 c = search needs
 
-sub-near : tie.Need-sub-near Inv-loop μ-loop
-sub-near c = search needs
+sub-sides : tie.Need-sub-sides Inv-loop μ-loop
+sub-sides c = search needs
 
-mul-near : tie.Need-mul-near Inv-loop μ-loop
-mul-near c = search needs
+mul-sides : tie.Need-mul-sides Inv-loop μ-loop
+mul-sides c = search needs
 
-element-write-near : tie.Need-element-write-near Inv-loop μ-loop
-element-write-near c = search needs
+element-write-sides : tie.Need-element-write-sides Inv-loop μ-loop
+element-write-sides c = search needs
 
-sub-feed : tie.Need-sub-feed Inv-loop μ-loop
-sub-feed c = search needs
+sub-feeders : tie.Need-sub-feeders Inv-loop μ-loop
+sub-feeders c = search needs
 
-mul-feed : tie.Need-mul-feed Inv-loop μ-loop
-mul-feed c = search needs
+mul-feeders : tie.Need-mul-feeders Inv-loop μ-loop
+mul-feeders c = search needs
 
-element-write-feed : tie.Need-element-write-feed Inv-loop μ-loop
-element-write-feed c = search needs
+element-write-feeders : tie.Need-element-write-feeders Inv-loop μ-loop
+element-write-feeders c = search needs
 
 mul-order : tie.Need-mul-order Inv-loop μ-loop
 mul-order c = search needs
 
 element-write-order : tie.Need-element-write-order Inv-loop μ-loop
 element-write-order c = let h = c .before .before .loop in
-    following-add _ _ _ _ _ _ _ _ (h .near) (h .feed) (h .order) (h .n) (h .code) (c .before .loop-test .taken) (h .inv) (c .if1 .taken) .0
+    following-add _ _ _ _ _ _ _ _ (h .sides) (h .feeders) (h .order) (h .n) (h .code) (c .before .loop-test .taken) (h .inv) (c .if1 .taken) .0
 
 add-n : tie.Need-add-n Inv-loop μ-loop
 add-n c = search needs
@@ -61,19 +61,19 @@ element-copy-out-code c = search needs
 
 loop-less : tie.Need-loop-less Inv-loop μ-loop
 loop-less c = let h = c .before .before .before .loop in
-    following-less _ _ _ _ _ _ _ _ (h .near) (h .feed) (h .order) (h .n) (h .code) (c .before .before .loop-test .taken) (h .inv)
+    following-less _ _ _ _ _ _ _ _ (h .sides) (h .feeders) (h .order) (h .n) (h .code) (c .before .before .loop-test .taken) (h .inv)
 
 loop-again : tie.Need-loop-again Inv-loop μ-loop
 loop-again c = let h = c .before .before .before .loop in
     let t = c .before .before .loop-test .taken in
     ⊎-elim
-    (λ w. rw (w .1, w .2, w .3, w .4) (following-add _ _ _ _ _ _ _ _ (h .near) (h .feed) (h .order) (h .n) (h .code) t (h .inv) (w .0 .taken) .1))
-    (λ w. rw (w .1, w .2, w .3, w .4) (following-skip _ _ _ _ _ _ _ _ (h .near) (h .feed) (h .order) (h .n) (h .code) t (h .inv) (w .0 .left)))
+    (λ w. rw (w .1, w .2, w .3, w .4) (following-add _ _ _ _ _ _ _ _ (h .sides) (h .feeders) (h .order) (h .n) (h .code) t (h .inv) (w .0 .taken) .1))
+    (λ w. rw (w .1, w .2, w .3, w .4) (following-skip _ _ _ _ _ _ _ _ (h .sides) (h .feeders) (h .order) (h .n) (h .code) t (h .inv) (w .0 .left)))
     (c .before .if1 .came)
 
 returns : tie.Need-returns Inv-loop μ-loop
 returns c = let h = c .before .loop in
-    λ most es t. following-end _ _ _ _ _ _ _ _ (h .near) (h .feed) (h .order) (h .n) (h .code) (c .loop-test .left) (h .inv) t
+    λ most es t. following-end _ _ _ _ _ _ _ _ (h .sides) (h .feeders) (h .order) (h .n) (h .code) (c .loop-test .left) (h .inv) t
 
 pub append-spec : {M : Type 1} → statement M
 append-spec =
@@ -83,14 +83,14 @@ append-spec =
     μ-loop
     loop-holds
     add-line
-    add-near
-    add-near-2
-    sub-near
-    mul-near
-    element-write-near
-    sub-feed
-    mul-feed
-    element-write-feed
+    add-sides
+    add-sides-2
+    sub-sides
+    mul-sides
+    element-write-sides
+    sub-feeders
+    mul-feeders
+    element-write-feeders
     mul-order
     element-write-order
     add-n

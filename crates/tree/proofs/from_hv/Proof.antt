@@ -11,21 +11,21 @@ use Rattle.tree.proofs.from_hv.Statement.{statement}
 use Rattle.tree.proofs.from_hv.Tie as tie
 
 abbrev Inv-loop : tie.InvT-loop
-Inv-loop net heads nexts near₀ feed₀ order₀ n₀ s₀ s-end near feed order n s = (s-end ≡ length (networkIn net .stations)) × (s ≤ s-end) × Queue (networkIn net) (HVUpTo (networkIn net) s) near feed order n
+Inv-loop net chains nexts near₀ feed₀ order₀ n₀ s₀ s-end sides feeders order n s = (s-end ≡ length (networkIn net .stations)) × (s ≤ s-end) × Queue (networkIn net) (HVUpTo (networkIn net) s) sides feeders order n
 
 abbrev μ-loop : tie.MeasureT-loop
-μ-loop net heads nexts near₀ feed₀ order₀ n₀ s₀ s-end near feed order n s = s-end - s
+μ-loop net chains nexts near₀ feed₀ order₀ n₀ s₀ s-end sides feeders order n s = s-end - s
 
 blank-requires : tie.Need-blank-requires Inv-loop μ-loop
 blank-requires c κs = search needs
 
-stations-requires : tie.Need-stations-requires Inv-loop μ-loop
-stations-requires c κs = search needs
+station-count-requires : tie.Need-station-count-requires Inv-loop μ-loop
+station-count-requires c κs = search needs
 
 loop-holds : tie.Need-loop-holds Inv-loop μ-loop
 loop-holds c = let a = c .before .before .before .before .before in
     let b = c .before .blank in
-    (c .stations .ensures, omega arith, queue-start (networkIn (a .args .net .now)) (a .pre .0) (a .pre .1) (b .last .0) (b .last .1 .0) (b .last .1 .1 .0) (b .ensures .0) (b .ensures .1) (b .ensures .2))
+    (c .station-count .ensures, omega arith, queue-start (networkIn (a .args .net .now)) (a .pre .0) (a .pre .1) (b .last .0) (b .last .1 .0) (b .last .1 .1 .0) (b .ensures .0) (b .ensures .1) (b .ensures .2))
 
 add-is-hv : tie.Need-add-is-hv Inv-loop μ-loop
 add-is-hv c = search needs
@@ -43,7 +43,7 @@ append-requires : tie.Need-append-requires Inv-loop μ-loop
 append-requires c κs = let p = c .before .before .before .before in
     let h = p .before .before .before .loop in
     let a = p .before .before .before .before .before .before .before .before .before in
-    hv-room (networkIn (a .args .net .now)) (a .pre .0) (a .pre .1) (h .s) (h .near) (h .feed) (h .order) (h .n) (h .inv .2) (sym (p .before .is-hv .ensures) ∙ p .if1 .taken) (a .args .heads .now) (a .args .nexts .now) (a .pre .2)
+    hv-room (networkIn (a .args .net .now)) (a .pre .0) (a .pre .1) (h .s) (h .sides) (h .feeders) (h .order) (h .n) (h .inv .2) (sym (p .before .is-hv .ensures) ∙ p .if1 .taken) (a .args .chains .now) (a .args .nexts .now) (a .pre .2)
 
 add-s : tie.Need-add-s Inv-loop μ-loop
 add-s c = search needs
@@ -72,7 +72,7 @@ loop-again c = ⊎-elim
 returns : tie.Need-returns Inv-loop μ-loop
 returns c = let h = c .before .loop in
     let a = c .before .before .before .before .before .before .before in
-    hv-end (networkIn (a .args .net .now)) (a .pre .0) (a .pre .1) (h .s) (h .near) (h .feed) (h .order) (h .n) (h .inv .2) (omega arith)
+    hv-end (networkIn (a .args .net .now)) (a .pre .0) (a .pre .1) (h .s) (h .sides) (h .feeders) (h .order) (h .n) (h .inv .2) (omega arith)
 
 pub from-hv-spec : {M : Type 1} → statement M
 from-hv-spec =
@@ -81,7 +81,7 @@ from-hv-spec =
     Inv-loop
     μ-loop
     blank-requires
-    stations-requires
+    station-count-requires
     loop-holds
     add-is-hv
     is-hv-requires

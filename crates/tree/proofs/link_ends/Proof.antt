@@ -11,16 +11,16 @@ use Rattle.tree.proofs.link_ends.Statement.{statement}
 use Rattle.tree.proofs.link_ends.Tie as tie
 
 abbrev Inv-loop : tie.InvT-loop
-Inv-loop net heads₀ nexts₀ code₀ heads nexts code = (code ≤ 2 * length (networkIn net .lines)) × LinkedAbove (networkIn net) code heads nexts × (length heads ≡ 512) × (length nexts ≡ 1536)
+Inv-loop net chains₀ nexts₀ code₀ chains nexts code = (code ≤ 2 * length (networkIn net .lines)) × LinkedAbove (networkIn net) code chains nexts × (length chains ≡ 512) × (length nexts ≡ 1536)
 
 abbrev μ-loop : tie.MeasureT-loop
-μ-loop net heads₀ nexts₀ code₀ heads nexts code = code
+μ-loop net chains₀ nexts₀ code₀ chains nexts code = code
 
 clear-requires : tie.Need-clear-requires Inv-loop μ-loop
 clear-requires c κs = search needs
 
-lines-requires : tie.Need-lines-requires Inv-loop μ-loop
-lines-requires c κs = search needs
+line-count-requires : tie.Need-line-count-requires Inv-loop μ-loop
+line-count-requires c κs = search needs
 
 mul-code : tie.Need-mul-code Inv-loop μ-loop
 mul-code c = search needs
@@ -28,7 +28,7 @@ mul-code c = search needs
 loop-holds : tie.Need-loop-holds Inv-loop μ-loop
 loop-holds c = let n = networkIn (c .before .before .before .before .args .net .now) in
     let k = c .before .clear in
-    (omega arith, subst (λ m. LinkedAbove n (2 * m) (k .last .0) (k .last .1 .0)) (sym (c .lines .ensures)) (linked-start n (k .last .0) (k .last .1 .0) (k .ensures .0)), k .ensures .1, k .ensures .2)
+    (omega arith, subst (λ m. LinkedAbove n (2 * m) (k .last .0) (k .last .1 .0)) (sym (c .line-count .ensures)) (linked-start n (k .last .0) (k .last .1 .0) (k .ensures .0)), k .ensures .1, k .ensures .2)
 
 is-closed-requires : tie.Need-is-closed-requires Inv-loop μ-loop
 is-closed-requires c κs = search needs
@@ -54,14 +54,14 @@ mul-nexts-2 c = search needs
 element-write-nexts : tie.Need-element-write-nexts Inv-loop μ-loop
 element-write-nexts c = search needs
 
-sub-heads : tie.Need-sub-heads Inv-loop μ-loop
-sub-heads c = search needs
+sub-chains : tie.Need-sub-chains Inv-loop μ-loop
+sub-chains c = search needs
 
-mul-heads : tie.Need-mul-heads Inv-loop μ-loop
-mul-heads c = search needs
+mul-chains : tie.Need-mul-chains Inv-loop μ-loop
+mul-chains c = search needs
 
-element-write-heads : tie.Need-element-write-heads Inv-loop μ-loop
-element-write-heads c = search needs
+element-write-chains : tie.Need-element-write-chains Inv-loop μ-loop
+element-write-chains c = search needs
 
 sub-code : tie.Need-sub-code Inv-loop μ-loop
 sub-code c = search needs
@@ -76,17 +76,17 @@ loop-again c = let h = c .before .before .before .loop in
     ⊎-elim
     (λ w. rw (w .3, w .4) (
       omega arith,
-      linked-closed n (h .code) (omega arith) (h .inv .0) (h .heads) (h .nexts) (h .inv .1) (w .1 .result) (w .1 .ensures .0) (w .1 .ensures .1) (omega arith) (omega arith) (not-true _ (sym closed ∙ w .0 .taken)),
-      length-set (h .heads) _ _ ∙ h .inv .2,
+      linked-closed n (h .code) (omega arith) (h .inv .0) (h .chains) (h .nexts) (h .inv .1) (w .1 .result) (w .1 .ensures .0) (w .1 .ensures .1) (omega arith) (omega arith) (not-true _ (sym closed ∙ w .0 .taken)),
+      length-set (h .chains) _ _ ∙ h .inv .2,
       length-set (h .nexts) _ _ ∙ h .inv .3,
     ))
-    (λ w. rw (w .1, w .2) (omega arith, linked-open n (h .code) (omega arith) (h .inv .0) (h .heads) (h .nexts) (h .inv .1) (not-false _ (sym closed ∙ w .0 .left)), h .inv .2, h .inv .3))
+    (λ w. rw (w .1, w .2) (omega arith, linked-open n (h .code) (omega arith) (h .inv .0) (h .chains) (h .nexts) (h .inv .1) (not-false _ (sym closed ∙ w .0 .left)), h .inv .2, h .inv .3))
     (c .if1 .came)
 
 returns : tie.Need-returns Inv-loop μ-loop
 returns c = let h = c .before .loop in
     let n = networkIn (c .before .before .before .before .before .before .args .net .now) in
-    linked-end n (h .heads) (h .nexts) (subst (λ k. LinkedAbove n k (h .heads) (h .nexts)) (omega arith) (h .inv .1))
+    linked-end n (h .chains) (h .nexts) (subst (λ k. LinkedAbove n k (h .chains) (h .nexts)) (omega arith) (h .inv .1))
 
 pub link-ends-spec : {M : Type 1} → statement M
 link-ends-spec =
@@ -95,7 +95,7 @@ link-ends-spec =
     Inv-loop
     μ-loop
     clear-requires
-    lines-requires
+    line-count-requires
     mul-code
     loop-holds
     is-closed-requires
@@ -106,9 +106,9 @@ link-ends-spec =
     sub-nexts-2
     mul-nexts-2
     element-write-nexts
-    sub-heads
-    mul-heads
-    element-write-heads
+    sub-chains
+    mul-chains
+    element-write-chains
     sub-code
     loop-less
     loop-again

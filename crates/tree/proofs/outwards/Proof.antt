@@ -9,10 +9,10 @@ use Rattle.tree.proofs.outwards.Statement.{statement}
 use Rattle.tree.proofs.outwards.Tie as tie
 
 abbrev Inv-loop : tie.InvT-loop
-Inv-loop net heads nexts near₀ feed₀ order₀ n₀ i₀ near feed order n i = (i ≤ n) × Queue (networkIn net) (Reached (networkIn net) (take i order)) near feed order n
+Inv-loop net chains nexts near₀ feed₀ order₀ n₀ i₀ sides feeders order n i = (i ≤ n) × Queue (networkIn net) (Reached (networkIn net) (take i order)) sides feeders order n
 
 abbrev μ-loop : tie.MeasureT-loop
-μ-loop net heads nexts near₀ feed₀ order₀ n₀ i₀ near feed order n i = 768 - i
+μ-loop net chains nexts near₀ feed₀ order₀ n₀ i₀ sides feeders order n i = 768 - i
 
 from-hv-requires : tie.Need-from-hv-requires Inv-loop μ-loop
 from-hv-requires c κs = search needs
@@ -37,7 +37,7 @@ loop-again c = (omega arith, c .from-line .ensures .0)
 returns : tie.Need-returns Inv-loop μ-loop
 returns c = let h = c .before .loop in
     let a = c .before .before .before .before .before .before in
-    queue-end (networkIn (a .args .net .now)) (a .pre .0) (a .pre .1) (h .i) (h .near) (h .feed) (h .order) (h .n) (h .inv .1) (omega arith)
+    queue-end (networkIn (a .args .net .now)) (a .pre .0) (a .pre .1) (h .i) (h .sides) (h .feeders) (h .order) (h .n) (h .inv .1) (omega arith)
 
 pub outwards-spec : {M : Type 1} → statement M
 outwards-spec =

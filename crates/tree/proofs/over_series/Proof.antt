@@ -9,10 +9,10 @@ use Rattle.tree.proofs.over_series.Statement.{statement}
 use Rattle.tree.proofs.over_series.Tie as tie
 
 abbrev Inv-loop : tie.InvT-loop
-Inv-loop net near feed order series counts₀ i₀ i-end counts i = (series ≡ networkIn net .head .series) × (i-end ≡ length (networkIn net .lines)) × (i ≤ i-end) × (length counts ≡ 768) × Counted (networkIn net) order counts i
+Inv-loop net sides feeders order series counts₀ i₀ i-end counts i = (series ≡ networkIn net .head .series) × (i-end ≡ length (networkIn net .lines)) × (i ≤ i-end) × (length counts ≡ 768) × Counted (networkIn net) order counts i
 
 abbrev μ-loop : tie.MeasureT-loop
-μ-loop net near feed order series counts₀ i₀ i-end counts i = i-end - i
+μ-loop net sides feeders order series counts₀ i₀ i-end counts i = i-end - i
 
 series-requires : tie.Need-series-requires Inv-loop μ-loop
 series-requires c κs = search needs
@@ -20,12 +20,12 @@ series-requires c κs = search needs
 no-counts-requires : tie.Need-no-counts-requires Inv-loop μ-loop
 no-counts-requires c κs = search needs
 
-lines-requires : tie.Need-lines-requires Inv-loop μ-loop
-lines-requires c κs = search needs
+line-count-requires : tie.Need-line-count-requires Inv-loop μ-loop
+line-count-requires c κs = search needs
 
 loop-holds : tie.Need-loop-holds Inv-loop μ-loop
 loop-holds c = let a = c .before .before .before in
-    (c .before .before .series .ensures, c .lines .ensures, omega arith, search needs, counted-start _ (a .pre .0) (a .pre .1) _ _ _ (a .pre .2) _)
+    (c .before .before .series .ensures, c .line-count .ensures, omega arith, search needs, counted-start _ (a .pre .0) (a .pre .1) _ _ _ (a .pre .2) _)
 
 mul-line : tie.Need-mul-line Inv-loop μ-loop
 mul-line c = search needs
@@ -127,7 +127,7 @@ over-series-spec =
     μ-loop
     series-requires
     no-counts-requires
-    lines-requires
+    line-count-requires
     loop-holds
     mul-line
     element-copy-out-line

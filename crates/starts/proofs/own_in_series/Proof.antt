@@ -6,18 +6,18 @@ use borrow.Author.Needs.{needs}
 use Rattle.buffer.specs.Buffer.{networkIn}
 use Rattle.outage.proofs.Calls.{read-fits}
 use Rattle.starts.proofs.Raising.{Raised, raised-none, raised-more, raised-all, first-few}
-use Rattle.starts.proofs.own_worsts.Statement.{statement}
-use Rattle.starts.proofs.own_worsts.Tie as tie
+use Rattle.starts.proofs.own_in_series.Statement.{statement}
+use Rattle.starts.proofs.own_in_series.Tie as tie
 
 abbrev Inv-loop : tie.InvT-loop
-Inv-loop net near marks firsts counts worst₀ line₀ line-end worst line =
-    (line-end ≡ length (networkIn net .lines) + 1) × (1 ≤ line) × (line ≤ line-end) × (length worst ≡ 65) × Raised (networkIn net) line-end worst line
+Inv-loop net sides marks firsts counts in-series₀ line₀ line-end in-series line =
+    (line-end ≡ length (networkIn net .lines) + 1) × (1 ≤ line) × (line ≤ line-end) × (length in-series ≡ 65) × Raised (networkIn net) line-end in-series line
 
 abbrev μ-loop : tie.MeasureT-loop
-μ-loop net near marks firsts counts worst₀ line₀ line-end worst line = line-end - line
+μ-loop net sides marks firsts counts in-series₀ line₀ line-end in-series line = line-end - line
 
-lines-requires : tie.Need-lines-requires Inv-loop μ-loop
-lines-requires c κs = search needs
+line-count-requires : tie.Need-line-count-requires Inv-loop μ-loop
+line-count-requires c κs = search needs
 
 add-line-end : tie.Need-add-line-end Inv-loop μ-loop
 add-line-end c = search needs
@@ -56,13 +56,13 @@ element-copy-out-larger c = search needs
 larger-requires : tie.Need-larger-requires Inv-loop μ-loop
 larger-requires c κs = search needs
 
-mul-worst : tie.Need-mul-worst Inv-loop μ-loop
-mul-worst c =
+mul-in-series : tie.Need-mul-in-series Inv-loop μ-loop
+mul-in-series c =
     let s = c .before .before .before .before .before .before in
     omega (arith, first-few (networkIn (s .args .net .now)) (s .pre .0) (s .args .firsts .now) (s .pre .3) (c .before .before .before .before .loop .line) (omega arith) (omega arith))
 
-array-write-worst : tie.Need-array-write-worst Inv-loop μ-loop
-array-write-worst c =
+array-write-in-series : tie.Need-array-write-in-series Inv-loop μ-loop
+array-write-in-series c =
     let s = c .before .before .before .before .before .before in
     omega (arith, first-few (networkIn (s .args .net .now)) (s .pre .0) (s .args .firsts .now) (s .pre .3) (c .before .before .before .before .loop .line) (omega arith) (omega arith))
 
@@ -81,11 +81,11 @@ far-count-requires c κs = let s = c .before .before .before .before .before .be
 larger-requires-2 : tie.Need-larger-requires-2 Inv-loop μ-loop
 larger-requires-2 c κs = search needs
 
-mul-worst-2 : tie.Need-mul-worst-2 Inv-loop μ-loop
-mul-worst-2 c = search needs
+mul-in-series-2 : tie.Need-mul-in-series-2 Inv-loop μ-loop
+mul-in-series-2 c = search needs
 
-array-write-worst-2 : tie.Need-array-write-worst-2 Inv-loop μ-loop
-array-write-worst-2 c = search needs
+array-write-in-series-2 : tie.Need-array-write-in-series-2 Inv-loop μ-loop
+array-write-in-series-2 c = search needs
 
 add-line : tie.Need-add-line Inv-loop μ-loop
 add-line c = search needs
@@ -105,7 +105,7 @@ loop-again c =
       omega arith,
       omega arith,
       simp length-set (h .inv .3),
-      raised-more N _ (h .worst) (h .line) (getD (g .firsts .now) (h .line - 1) 0) (c .before .before .far-place .result) (getD (g .counts .now) (h .line - 1) 0) (c .before .far-count .result) (c .before .before .before .larger .result) (c .larger2 .result)
+      raised-more N _ (h .in-series) (h .line) (getD (g .firsts .now) (h .line - 1) 0) (c .before .before .far-place .result) (getD (g .counts .now) (h .line - 1) 0) (c .before .far-count .result) (c .before .before .before .larger .result) (c .larger2 .result)
           (omega arith) (omega arith) (omega arith) (s .pre .3 (h .line) (omega arith) (omega arith)) (s .pre .4 (h .line) (omega arith) (omega arith)) (far .0) (c .before .far-count .ensures)
           (c .before .before .before .larger .ensures) (c .larger2 .ensures) (h .inv .4),
     )
@@ -114,15 +114,15 @@ returns : tie.Need-returns Inv-loop μ-loop
 returns c =
     let s = c .before .before .before in
     let h = c .before .loop in
-    raised-all (networkIn (s .args .net .now)) (s .pre .0) _ (h .inv .0) (h .worst) (h .line) (omega arith) (h .inv .4)
+    raised-all (networkIn (s .args .net .now)) (s .pre .0) _ (h .inv .0) (h .in-series) (h .line) (omega arith) (h .inv .4)
 
-pub own-worsts-spec : {M : Type 1} → statement M
-own-worsts-spec =
+pub own-in-series-spec : {M : Type 1} → statement M
+own-in-series-spec =
     tie.close
     (tie.spec
     Inv-loop
     μ-loop
-    lines-requires
+    line-count-requires
     add-line-end
     loop-holds
     sub-first
@@ -134,15 +134,15 @@ own-worsts-spec =
     mul-larger-2
     element-copy-out-larger
     larger-requires
-    mul-worst
-    array-write-worst
+    mul-in-series
+    array-write-in-series
     far-place-requires
     mul-larger-3
     array-read-larger-2
     far-count-requires
     larger-requires-2
-    mul-worst-2
-    array-write-worst-2
+    mul-in-series-2
+    array-write-in-series-2
     add-line
     loop-less
     loop-again

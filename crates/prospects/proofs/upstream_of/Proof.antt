@@ -1,15 +1,15 @@
 use mathlib.Core.Logic.{⊎-elim}
 use borrow.Author.Tests.{eqb-true, eqb-false}
-use Rattle.prospects.proofs.Levels.{near-taken, near-kept}
+use Rattle.prospects.proofs.Outlooks.{upstream-taken, upstream-kept}
 use borrow.Author.Needs.{needs}
-use Rattle.prospects.proofs.near_of.Statement.{statement}
-use Rattle.prospects.proofs.near_of.Tie as tie
+use Rattle.prospects.proofs.upstream_of.Statement.{statement}
+use Rattle.prospects.proofs.upstream_of.Tie as tie
 
-mul-near : tie.Need-mul-near
-mul-near c = search needs
+mul-upstream : tie.Need-mul-upstream
+mul-upstream c = search needs
 
-element-copy-out-near : tie.Need-element-copy-out-near
-element-copy-out-near c = search needs
+element-copy-out-upstream : tie.Need-element-copy-out-upstream
+element-copy-out-upstream c = search needs
 
 mul-if1 : tie.Need-mul-if1
 mul-if1 c = search needs
@@ -38,17 +38,17 @@ element-copy-out-result c = search needs
 returns : tie.Need-returns
 returns c =
     let d = c .before .before .before .before .before .before in
-    near-taken (d .pre .0) (d .args .ends .now) (d .pre .1) (c .before .before .before .if1 .taken) (eqb-true _ _ (c .before .if2 .taken))
+    upstream-taken (d .pre .0) (d .args .ends .now) (d .pre .1) (c .before .before .before .if1 .taken) (eqb-true _ _ (c .before .if2 .taken))
 
 returns-2 : tie.Need-returns-2
-returns-2 c = near-kept (c .before .before .before .pre .0) (⊎-elim (λ w r q. eqb-false _ _ (w .2 .left) q) (λ w r q. w .left r) (c .if1 .came))
+returns-2 c = upstream-kept (c .before .before .before .pre .0) (⊎-elim (λ w r q. eqb-false _ _ (w .2 .left) q) (λ w r q. w .left r) (c .if1 .came))
 
-pub near-of-spec : {M : Type 1} → statement M
-near-of-spec =
+pub upstream-of-spec : {M : Type 1} → statement M
+upstream-of-spec =
     tie.close
     (tie.spec
-    mul-near
-    element-copy-out-near
+    mul-upstream
+    element-copy-out-upstream
     mul-if1
     add-if1
     mul-if1-2

@@ -1,4 +1,4 @@
--- The breaker near a place of an accepted file: it is a closed end, and no fewer customers are behind it.
+-- The breaker upstream of a place of an accepted file: it is a closed end, and no fewer customers are behind it.
 use Prim.Native.Nat.{ℕ, _+_, _≤_}
 use mathlib.Core.Path.{_≡_, refl, sym, ap, _∙_, subst}
 use mathlib.Core.Bool.{Bool, true, false, _||_, true≢false}
@@ -24,8 +24,8 @@ use Rattle.theory.specs.Best.{Accepted, place-closed}
 use Rattle.tree.specs.Outwards.{firstEnd, nearEnd}
 use Rattle.outage.proofs.Paths.{behind-line}
 use Rattle.sets.specs.Ways.{has, Way}
-use Rattle.sets.specs.Onward.{onward, way, near-line}
-use Rattle.sets.specs.Sets.{nearAt}
+use Rattle.sets.specs.Onward.{onward, way, upstream-line}
+use Rattle.sets.specs.Sets.{upstreamAt}
 use Rattle.sets.specs.Apart.{place-free}
 use Rattle.starts.proofs.OnEnds.{place-in}
 use Rattle.prospects.specs.Chosen.{Before}
@@ -88,9 +88,9 @@ module _ (N : Network) (a : Accepted N) where
     trips : any B (pathToHV N (line l)) ≡ true
     trips = any-mono (λ e. isBreaker N e) B (pathToHV N (line l)) (λ e. or-left (isBreaker N e) _) (tree N (a .read) (a .rules) .trips l (there .0) (there .1))
 
-    pub near-closed : isOpen N (nearAt N S e) ≡ false
+    pub upstream-closed : isOpen N (upstreamAt N S e) ≡ false
     unfolding any
-    near-closed = closed-of (nearAt N S e) (ap B (near-line N B e f) ∙ first-passes B (pathToHV N (line l)) trips)
+    upstream-closed = closed-of (upstreamAt N S e) (ap B (upstream-line N B e f) ∙ first-passes B (pathToHV N (line l)) trips)
       where
         among : (S : List ℕ) → Valid N S → (d : End) → any (λ p. sameEnd d (endAt N p)) S ≡ true → isOpen N d ≡ false
         among [] v d h = absurd (true≢false (sym h))
@@ -99,12 +99,12 @@ module _ (N : Network) (a : Accepted N) where
         closed-of : (d : End) → B d ≡ true → isOpen N d ≡ false
         closed-of d h = or-cases (isBreaker N d) _ (breaker-closed N d) (among S v d) h
 
-    -- no fewer customers are behind its near breaker
-    pub behind-near : customersBehind N e ≤ customersBehind N (nearAt N S e)
+    -- no fewer customers are behind its upstream breaker
+    pub behind-upstream : customersBehind N e ≤ customersBehind N (upstreamAt N S e)
     unfolding nearEnd
-    behind-near = omega (
+    behind-upstream = omega (
       arith,
       behind-line N (a .read) (a .rules) e c ∙ ap (customersBehind N) (sym (first-end (pathToHV N (line l)))),
-      ap (customersBehind N) (near-line N B e f),
+      ap (customersBehind N) (upstream-line N B e f),
       first-mono (λ d. customersBehind N d) noEnd B (λ d. true) (pathToHV N (line l)) (rising-path N (tree N (a .read) (a .rules)) l (there .0) (there .1)) trips (λ d h. refl),
     )

@@ -67,8 +67,8 @@ most-map test f g (x ∷ xs) = ap (max (on (test (g x)) (f (g x)))) (most-map te
 -- stations and lines with their paths to the HV station
 module _ (pathOf : Vertex → List End) where
   -- the most breakers on a path that passes an end
-  abbrev pub worst : List Vertex → (End → Bool) → End → ℕ
-  worst vs B q = most (λ v. has q (pathOf v)) (λ v. countOf B (pathOf v)) vs
+  abbrev pub in-series : List Vertex → (End → Bool) → End → ℕ
+  in-series vs B q = most (λ v. has q (pathOf v)) (λ v. countOf B (pathOf v)) vs
 
   -- some station or line lies behind an end
   abbrev pub someBehind : List Vertex → End → Bool
@@ -79,71 +79,71 @@ module _ (pathOf : Vertex → List End) where
     counted : (b : Bool) (v : Vertex) → List·Memᴰ v vs → has q (pathOf v) ≡ b → countOf (with B q) (pathOf v) ≡ countOf B (pathOf v) + on b 1
     counted b v m h = count-with up B q f (pathOf v) (ways v m) ∙ ap (λ x. countOf B (pathOf v) + on x 1) h
 
-    worst-of : (C : End → Bool) (p : End) (v : Vertex) → List·Memᴰ v vs → has p (pathOf v) ≡ true → countOf C (pathOf v) ≤ worst vs C p
-    worst-of C p v m h = most-of (λ v. has p (pathOf v)) (λ v. countOf C (pathOf v)) vs v m h
+    in-series-of : (C : End → Bool) (p : End) (v : Vertex) → List·Memᴰ v vs → has p (pathOf v) ≡ true → countOf C (pathOf v) ≤ in-series vs C p
+    in-series-of C p v m h = most-of (λ v. has p (pathOf v)) (λ v. countOf C (pathOf v)) vs v m h
 
-    worst-less : (C : End → Bool) (p : End) (n : ℕ) → 0 < n → ((v : Vertex) → List·Memᴰ v vs → has p (pathOf v) ≡ true → countOf C (pathOf v) < n) → worst vs C p < n
-    worst-less C p n z h = most-less (λ v. has p (pathOf v)) (λ v. countOf C (pathOf v)) n z vs h
+    in-series-less : (C : End → Bool) (p : End) (n : ℕ) → 0 < n → ((v : Vertex) → List·Memᴰ v vs → has p (pathOf v) ≡ true → countOf C (pathOf v) < n) → in-series vs C p < n
+    in-series-less C p n z h = most-less (λ v. has p (pathOf v)) (λ v. countOf C (pathOf v)) n z vs h
 
     counted-grows : (v : Vertex) → List·Memᴰ v vs → countOf B (pathOf v) ≤ countOf (with B q) (pathOf v)
     counted-grows v m = omega (arith, counted (has q (pathOf v)) v m refl)
 
     -- Series: with one more breaker at q no path has too many where none had before, and those that pass q had fewer.
     pub series-with : (limit : ℕ) → someBehind vs q ≡ true
-        → ((v : Vertex) → List·Memᴰ v vs → countOf (with B q) (pathOf v) ≤ limit) ↔ (((v : Vertex) → List·Memᴰ v vs → countOf B (pathOf v) ≤ limit) × (worst vs B q < limit))
+        → ((v : Vertex) → List·Memᴰ v vs → countOf (with B q) (pathOf v) ≤ limit) ↔ (((v : Vertex) → List·Memᴰ v vs → countOf B (pathOf v) ≤ limit) × (in-series vs B q < limit))
     series-with limit b = (
       λ h.
           let less : (v : Vertex) → List·Memᴰ v vs → has q (pathOf v) ≡ true → countOf B (pathOf v) < limit = λ v m k. omega (arith, h v m, counted true v m k) in
           let x = any-out (λ v. has q (pathOf v)) vs b in
-          (λ v m. omega (arith, h v m, counted-grows v m), worst-less B q limit (omega (arith, less (x .0) (x .1) (x .2))) less),
+          (λ v m. omega (arith, h v m, counted-grows v m), in-series-less B q limit (omega (arith, less (x .0) (x .1) (x .2))) less),
       λ h v m. go (has q (pathOf v)) h v m refl,
     )
       where
-        go : (b : Bool) → ((v : Vertex) → List·Memᴰ v vs → countOf B (pathOf v) ≤ limit) × (worst vs B q < limit) → (v : Vertex) → List·Memᴰ v vs → has q (pathOf v) ≡ b → countOf (with B q) (pathOf v) ≤ limit
-        go true h v m k = omega (arith, counted true v m k, worst-of B q v m k, h .1)
+        go : (b : Bool) → ((v : Vertex) → List·Memᴰ v vs → countOf B (pathOf v) ≤ limit) × (in-series vs B q < limit) → (v : Vertex) → List·Memᴰ v vs → has q (pathOf v) ≡ b → countOf (with B q) (pathOf v) ≤ limit
+        go true h v m k = omega (arith, counted true v m k, in-series-of B q v m k, h .1)
         go false h v m k = omega (arith, counted false v m k, h .0 v m)
 
     -- The most with one more breaker at q: one more where every path that passes p passes q; where p is on q's path, q's and one more, if that is more.
-    pub worst-with : (p : End) → p ≢ q → someBehind vs p ≡ true → someBehind vs q ≡ true
-        → worst vs (with B q) p ≡ this (has q (up p)) (worst vs B p + 1) (this (has p (up q)) (max (worst vs B p) (worst vs B q + 1)) (worst vs B p))
-    worst-with p d bp bq = go (has q (up p)) (has p (up q)) refl refl
+    pub in-series-with : (p : End) → p ≢ q → someBehind vs p ≡ true → someBehind vs q ≡ true
+        → in-series vs (with B q) p ≡ this (has q (up p)) (in-series vs B p + 1) (this (has p (up q)) (max (in-series vs B p) (in-series vs B q + 1)) (in-series vs B p))
+    in-series-with p d bp bq = go (has q (up p)) (has p (up q)) refl refl
       where
         C : End → Bool
         C = with B q
 
         -- a bound on the paths that pass p, by whether they pass q
-        at-most : (n : ℕ) → ((v : Vertex) → List·Memᴰ v vs → has p (pathOf v) ≡ true → (b : Bool) → has q (pathOf v) ≡ b → countOf B (pathOf v) + on b 1 ≤ n) → worst vs C p ≤ n
-        at-most n h = omega (arith, worst-less C p (suc n) (omega arith) (λ v m k. omega (arith, counted (has q (pathOf v)) v m refl, h v m k (has q (pathOf v)) refl)))
+        at-most : (n : ℕ) → ((v : Vertex) → List·Memᴰ v vs → has p (pathOf v) ≡ true → (b : Bool) → has q (pathOf v) ≡ b → countOf B (pathOf v) + on b 1 ≤ n) → in-series vs C p ≤ n
+        at-most n h = omega (arith, in-series-less C p (suc n) (omega arith) (λ v m k. omega (arith, counted (has q (pathOf v)) v m refl, h v m k (has q (pathOf v)) refl)))
 
         -- no fewer than before
-        grows : worst vs B p ≤ worst vs C p
-        grows = omega (arith, worst-less B p (suc (worst vs C p)) (omega arith) (λ v m k. omega (arith, counted-grows v m, worst-of C p v m k)))
+        grows : in-series vs B p ≤ in-series vs C p
+        grows = omega (arith, in-series-less B p (suc (in-series vs C p)) (omega arith) (λ v m k. omega (arith, counted-grows v m, in-series-of C p v m k)))
 
         -- one more than on any path of an end e whose paths pass p and q
-        more : (e : End) → someBehind vs e ≡ true → ((v : Vertex) → List·Memᴰ v vs → has e (pathOf v) ≡ true → (has p (pathOf v) ≡ true) × (has q (pathOf v) ≡ true)) → worst vs B e < worst vs C p
+        more : (e : End) → someBehind vs e ≡ true → ((v : Vertex) → List·Memᴰ v vs → has e (pathOf v) ≡ true → (has p (pathOf v) ≡ true) × (has q (pathOf v) ≡ true)) → in-series vs B e < in-series vs C p
         more e b h =
-            let less : (v : Vertex) → List·Memᴰ v vs → has e (pathOf v) ≡ true → countOf B (pathOf v) < worst vs C p
-            = λ v m k. omega (arith, counted true v m (h v m k .1), worst-of C p v m (h v m k .0)) in
+            let less : (v : Vertex) → List·Memᴰ v vs → has e (pathOf v) ≡ true → countOf B (pathOf v) < in-series vs C p
+            = λ v m k. omega (arith, counted true v m (h v m k .1), in-series-of C p v m (h v m k .0)) in
             let x = any-out (λ v. has e (pathOf v)) vs b in
-            worst-less B e (worst vs C p) (omega (arith, less (x .0) (x .1) (x .2))) less
+            in-series-less B e (in-series vs C p) (omega (arith, less (x .0) (x .1) (x .2))) less
 
-        on-most : (v : Vertex) → List·Memᴰ v vs → has p (pathOf v) ≡ true → (b : Bool) → has q (pathOf v) ≡ b → countOf B (pathOf v) + on b 1 ≤ max (worst vs B p) (worst vs B q + 1)
-        on-most v m k true h = omega (arith, worst-of B q v m h)
-        on-most v m k false h = omega (arith, worst-of B p v m k)
+        on-most : (v : Vertex) → List·Memᴰ v vs → has p (pathOf v) ≡ true → (b : Bool) → has q (pathOf v) ≡ b → countOf B (pathOf v) + on b 1 ≤ max (in-series vs B p) (in-series vs B q + 1)
+        on-most v m k true h = omega (arith, in-series-of B q v m h)
+        on-most v m k false h = omega (arith, in-series-of B p v m k)
 
-        go : (s t : Bool) → has q (up p) ≡ s → has p (up q) ≡ t → worst vs C p ≡ this s (worst vs B p + 1) (this t (max (worst vs B p) (worst vs B q + 1)) (worst vs B p))
+        go : (s t : Bool) → has q (up p) ≡ s → has p (up q) ≡ t → in-series vs C p ≡ this s (in-series vs B p + 1) (this t (max (in-series vs B p) (in-series vs B q + 1)) (in-series vs B p))
         go true t s _ = omega (
           arith,
-          at-most (worst vs B p + 1) (λ v m k b _. omega (arith, worst-of B p v m k, one b)),
+          at-most (in-series vs B p + 1) (λ v m k b _. omega (arith, in-series-of B p v m k, one b)),
           more p bp (λ v m k. (k, has-onward up p q (pathOf v) (ways v m) k s)),
         )
           where
             one : (b : Bool) → on b 1 ≤ 1
             one true = omega arith
             one false = omega arith
-        go false true _ t = omega (arith, at-most (max (worst vs B p) (worst vs B q + 1)) on-most, grows, more q bq (λ v m k. (has-onward up q p (pathOf v) (ways v m) k t, k)))
-        go false false s t = omega (arith, at-most (worst vs B p) apart, grows)
+        go false true _ t = omega (arith, at-most (max (in-series vs B p) (in-series vs B q + 1)) on-most, grows, more q bq (λ v m k. (has-onward up q p (pathOf v) (ways v m) k t, k)))
+        go false false s t = omega (arith, at-most (in-series vs B p) apart, grows)
           where
-            apart : (v : Vertex) → List·Memᴰ v vs → has p (pathOf v) ≡ true → (b : Bool) → has q (pathOf v) ≡ b → countOf B (pathOf v) + on b 1 ≤ worst vs B p
+            apart : (v : Vertex) → List·Memᴰ v vs → has p (pathOf v) ≡ true → (b : Bool) → has q (pathOf v) ≡ b → countOf B (pathOf v) + on b 1 ≤ in-series vs B p
             apart v m k true h = absurd (true≢false (sym (one-onward up p q d (pathOf v) (ways v m) k h s) ∙ t))
-            apart v m k false h = omega (arith, worst-of B p v m k)
+            apart v m k false h = omega (arith, in-series-of B p v m k)

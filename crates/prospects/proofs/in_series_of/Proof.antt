@@ -1,17 +1,17 @@
 use native.Mathlib.Omega.{arith}
-use Rattle.prospects.proofs.Levels.{raised, highest, worst-kept}
+use Rattle.prospects.proofs.Outlooks.{raised, highest, in-series-kept}
 use borrow.Author.Needs.{needs}
-use Rattle.prospects.proofs.worst_of.Statement.{statement}
-use Rattle.prospects.proofs.worst_of.Tie as tie
+use Rattle.prospects.proofs.in_series_of.Statement.{statement}
+use Rattle.prospects.proofs.in_series_of.Tie as tie
 
-add-worst : tie.Need-add-worst
-add-worst c = search needs
+add-in-series : tie.Need-add-in-series
+add-in-series c = search needs
 
-mul-worst : tie.Need-mul-worst
-mul-worst c = search needs
+mul-in-series : tie.Need-mul-in-series
+mul-in-series c = search needs
 
-element-copy-out-worst : tie.Need-element-copy-out-worst
-element-copy-out-worst c = search needs
+element-copy-out-in-series : tie.Need-element-copy-out-in-series
+element-copy-out-in-series c = search needs
 
 mul-relation : tie.Need-mul-relation
 mul-relation c = search needs
@@ -50,15 +50,15 @@ returns-3 : tie.Need-returns-3
 returns-3 c = omega (arith, highest (c .before .before .before .before .before .before .pre) (c .before .before .if2 .taken) .0, c .if3 .left)
 
 returns-4 : tie.Need-returns-4
-returns-4 c = worst-kept (c .before .before .before .before .pre) (c .before .if1 .left) (c .if2 .left)
+returns-4 c = in-series-kept (c .before .before .before .before .pre) (c .before .if1 .left) (c .if2 .left)
 
-pub worst-of-spec : {M : Type 1} → statement M
-worst-of-spec =
+pub in-series-of-spec : {M : Type 1} → statement M
+in-series-of-spec =
     tie.close
     (tie.spec
-    add-worst
-    mul-worst
-    element-copy-out-worst
+    add-in-series
+    mul-in-series
+    element-copy-out-in-series
     mul-relation
     add-relation
     mul-relation-2
