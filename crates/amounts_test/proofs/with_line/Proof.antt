@@ -5,12 +5,6 @@ use borrow.Author.Needs.{needs}
 use Rattle.amounts_test.proofs.with_line.Statement.{statement}
 use Rattle.amounts_test.proofs.with_line.Tie as tie
 
-new-requires : tie.Need-new-requires
-new-requires c κs = search needs
-
-new-requires-2 : tie.Need-new-requires-2
-new-requires-2 c κs = search needs
-
 times-requires : tie.Need-times-requires
 times-requires c κs = omega (arith, ap₂ (λ (w n : ℕ). w * n) (c .before .new .ensures) (c .new2 .ensures))
 
@@ -22,4 +16,4 @@ returns c = omega (arith, c .plus .ensures, c .before .times .ensures, ap₂ (λ
 
 pub with-line-spec : {M : Type 1} → statement M
 with-line-spec =
-    tie.close (tie.spec new-requires new-requires-2 times-requires plus-requires returns)
+    tie.close (tie.spec (search needs) (search needs) times-requires plus-requires returns)

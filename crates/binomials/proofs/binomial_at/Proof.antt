@@ -4,18 +4,6 @@ use Rattle.binomials.proofs.Entries.{entry-is, entry-small}
 use Rattle.binomials.proofs.binomial_at.Statement.{statement}
 use Rattle.binomials.proofs.binomial_at.Tie as tie
 
-mul-result : tie.Need-mul-result
-mul-result c = search needs
-
-add-result : tie.Need-add-result
-add-result c = search needs
-
-mul-result-2 : tie.Need-mul-result-2
-mul-result-2 c = search needs
-
-element-copy-out-result : tie.Need-element-copy-out-result
-element-copy-out-result c = search needs
-
 returns : tie.Need-returns
 returns c =
     let t = c .before .args .table .now in
@@ -26,4 +14,4 @@ returns c =
 
 pub binomial-at-spec : {M : Type 1} → statement M
 binomial-at-spec =
-    tie.close (tie.spec mul-result add-result mul-result-2 element-copy-out-result returns)
+    tie.close (tie.spec (search needs) (search needs) (search needs) (search needs) returns)

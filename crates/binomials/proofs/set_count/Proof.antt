@@ -20,9 +20,6 @@ add-column-end c = omega arith
 loop-holds : tie.Need-loop-holds Inv-loop μ-loop
 loop-holds c = omega (arith, columns-all (c .args .places) (c .args .additions))
 
-binomial-at-requires : tie.Need-binomial-at-requires Inv-loop μ-loop
-binomial-at-requires c κs = search needs
-
 add-sum : tie.Need-add-sum Inv-loop μ-loop
 add-sum c = omega arith
 
@@ -46,7 +43,7 @@ set-count-spec =
     μ-loop
     add-column-end
     loop-holds
-    binomial-at-requires
+    (λ c κs. search needs)
     add-sum
     add-column
     loop-less

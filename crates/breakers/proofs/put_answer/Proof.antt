@@ -5,33 +5,12 @@ use borrow.Author.Needs.{needs}
 use Rattle.breakers.proofs.put_answer.Statement.{statement}
 use Rattle.breakers.proofs.put_answer.Tie as tie
 
-report-requires : tie.Need-report-requires
-report-requires c κs = search needs
-
-enum-known-n : tie.Need-enum-known-n
-enum-known-n c = search needs
-
-enum-known-number : tie.Need-enum-known-number
-enum-known-number c = search needs
-
-slice-aggregate-put-line : tie.Need-slice-aggregate-put-line
-slice-aggregate-put-line c = search needs
-
-put-line-requires : tie.Need-put-line-requires
-put-line-requires c κs = search needs
-
-same-length : tie.Need-same-length
-same-length c = search needs
-
 returns : tie.Need-returns
 returns c =
     let d = c .before .before .before .before .before in
     let a = c .before .before .before .before .before .before .before .before .before .args in
     report-printed (a .file .now) (a .out .now) (c .before .before .before .before .before .before .before .before .before .pre) (c .before .n .given .0 .0) (d .report .last .1 .0)
     (subst (λ r. reportSays r ≡ reportAnswered (a .file .now) (a .out .now)) (c .before .n .given .1) (d .report .ensures .0)) (d .report .ensures .1)
-
-same-length-2 : tie.Need-same-length-2
-same-length-2 c = search needs
 
 returns-2 : tie.Need-returns-2
 returns-2 c =
@@ -46,12 +25,12 @@ pub put-answer-spec : {M : Type 1} → statement M
 put-answer-spec =
     tie.close
     (tie.spec
-    report-requires
-    enum-known-n
-    enum-known-number
-    slice-aggregate-put-line
-    put-line-requires
-    same-length
+    (search needs)
+    (search needs)
+    (search needs)
+    (search needs)
+    (search needs)
+    (search needs)
     returns
-    same-length-2
+    (search needs)
     returns-2)

@@ -17,17 +17,11 @@ Inv-loop bytes letter out₀ at₀ k₀ k-end out at k =
 abbrev μ-loop : tie.MeasureT-loop
 μ-loop bytes letter out₀ at₀ k₀ k-end out at k = k-end - k
 
-field-end-requires : tie.Need-field-end-requires Inv-loop μ-loop
-field-end-requires c κs = search needs
-
 returns : tie.Need-returns Inv-loop μ-loop
 unfolding formSays
 returns c =
     let a = c .before .before .before .before .args in
     kind-wrong (a .letter) (length (a .out .now)) (a .bytes .now) (omega arith) (λ e. c .if1 .taken (omega arith))
-
-shared-slice-read-if2 : tie.Need-shared-slice-read-if2 Inv-loop μ-loop
-shared-slice-read-if2 c = search needs
 
 returns-2 : tie.Need-returns-2 Inv-loop μ-loop
 unfolding formSays
@@ -46,38 +40,11 @@ loop-holds c =
           ∙ letter-right (a .letter) (length (a .out .now)) (a .bytes .now) (a .out .now) (omega arith) (omega arith) (c .if2 .left),
     )
 
-same-length : tie.Need-same-length Inv-loop μ-loop
-same-length c = search needs
-
 returns-3 : tie.Need-returns-3 Inv-loop μ-loop
 unfolding formSays
 returns-3 c =
     let l = c .before .before .loop in
     sym (no-field (c .before .before .before .before .before .before .before .before .before .args .bytes .now) (l .out) (l .k) _ (l .at) (omega arith) (omega arith)) ∙ l .inv .4
-
-add-from : tie.Need-add-from Inv-loop μ-loop
-add-from c = search needs
-
-field-end-requires-2 : tie.Need-field-end-requires-2 Inv-loop μ-loop
-field-end-requires-2 c κs = search needs
-
-sub-read-number : tie.Need-sub-read-number Inv-loop μ-loop
-sub-read-number c = search needs
-
-part-read-number-start : tie.Need-part-read-number-start Inv-loop μ-loop
-part-read-number-start c = search needs
-
-part-read-number-end : tie.Need-part-read-number-end Inv-loop μ-loop
-part-read-number-end c = search needs
-
-read-number-requires : tie.Need-read-number-requires Inv-loop μ-loop
-read-number-requires c κs = search needs
-
-enum-told : tie.Need-enum-told Inv-loop μ-loop
-enum-told c = search needs
-
-same-length-2 : tie.Need-same-length-2 Inv-loop μ-loop
-same-length-2 c = search needs
 
 returns-4 : tie.Need-returns-4 Inv-loop μ-loop
 unfolding formSays numberSays
@@ -86,21 +53,6 @@ returns-4 c =
     sym (bad-field (c .before .before .before .before .before .before .before .before .before .before .before .before .before .before .args .bytes .now) (l .out) (l .k) _ (l .at) (c .before .before .before .before .field-end2 .result) (omega arith) (omega arith) (omega arith)
     (sym (c .before .before .read-number .ensures) ∙ ap numberSays (c .enum-told .given .1)))
     ∙ l .inv .4
-
-enum-known-number : tie.Need-enum-known-number Inv-loop μ-loop
-enum-known-number c = search needs
-
-mul-out : tie.Need-mul-out Inv-loop μ-loop
-mul-out c = search needs
-
-slice-write-out : tie.Need-slice-write-out Inv-loop μ-loop
-slice-write-out c = search needs
-
-add-k : tie.Need-add-k Inv-loop μ-loop
-add-k c = search needs
-
-loop-less : tie.Need-loop-less Inv-loop μ-loop
-loop-less c = search needs
 
 loop-again : tie.Need-loop-again Inv-loop μ-loop
 unfolding numberSays
@@ -115,9 +67,6 @@ loop-again c =
           ∙ l .inv .4,
     )
 
-same-length-3 : tie.Need-same-length-3 Inv-loop μ-loop
-same-length-3 c = search needs
-
 returns-5 : tie.Need-returns-5 Inv-loop μ-loop
 returns-5 c =
     let l = c .before .loop in
@@ -129,27 +78,27 @@ read-form-spec =
     (tie.spec
     Inv-loop
     μ-loop
-    field-end-requires
+    (search needs)
     returns
-    shared-slice-read-if2
+    (search needs)
     returns-2
     loop-holds
-    same-length
+    (search needs)
     returns-3
-    add-from
-    field-end-requires-2
-    sub-read-number
-    part-read-number-start
-    part-read-number-end
-    read-number-requires
-    enum-told
-    same-length-2
+    (search needs)
+    (search needs)
+    (search needs)
+    (search needs)
+    (search needs)
+    (search needs)
+    (search needs)
+    (search needs)
     returns-4
-    enum-known-number
-    mul-out
-    slice-write-out
-    add-k
-    loop-less
+    (search needs)
+    (search needs)
+    (search needs)
+    (search needs)
+    (search needs)
     loop-again
-    same-length-3
+    (search needs)
     returns-5)

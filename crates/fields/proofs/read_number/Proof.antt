@@ -24,9 +24,6 @@ returns-2 : tie.Need-returns-2 Inv-loop μ-loop
 unfolding numberSays
 returns-2 c = long (c .before .before .before .before .before .args .field .now) (c .before .many-digits .ensures .0 (c .if2 .taken))
 
-shared-slice-read-if4 : tie.Need-shared-slice-read-if4 Inv-loop μ-loop
-shared-slice-read-if4 c = search needs
-
 returns-3 : tie.Need-returns-3 Inv-loop μ-loop
 unfolding numberSays
 returns-3 c = zero-first (c .before .before .before .before .before .before .before .before .args .field .now) (omega arith) (c .if4 .taken)
@@ -41,9 +38,6 @@ loop-holds c =
       omega arith,
       starts (c .before .before .before .before .before .before .args .field .now) (λ e. omega (arith, e, some)) (omega (arith, few)) (⊎-elim (λ w. inl (w .2 .left)) (λ w. inr (w .left)) (c .if3 .came)),
     )
-
-shared-slice-read-d : tie.Need-shared-slice-read-d Inv-loop μ-loop
-shared-slice-read-d c = search needs
 
 returns-4 : tie.Need-returns-4 Inv-loop μ-loop
 unfolding numberSays
@@ -68,12 +62,6 @@ sub-v c = omega arith
 
 add-v : tie.Need-add-v Inv-loop μ-loop
 add-v c = omega (arith, below-ten-digits (c .before .before .before .before .loop .i) (omega arith))
-
-add-i : tie.Need-add-i Inv-loop μ-loop
-add-i c = search needs
-
-loop-less : tie.Need-loop-less Inv-loop μ-loop
-loop-less c = search needs
 
 loop-again : tie.Need-loop-again Inv-loop μ-loop
 loop-again c =
@@ -101,17 +89,17 @@ read-number-spec =
     returns
     (search needs)
     returns-2
-    shared-slice-read-if4
+    (search needs)
     returns-3
     loop-holds
-    shared-slice-read-d
+    (search needs)
     returns-4
     returns-5
     mul-v
     cast-v
     sub-v
     add-v
-    add-i
-    loop-less
+    (search needs)
+    (search needs)
     loop-again
     returns-6)

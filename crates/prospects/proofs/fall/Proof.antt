@@ -6,12 +6,6 @@ use borrow.Author.Needs.{needs}
 use Rattle.prospects.proofs.fall.Statement.{statement}
 use Rattle.prospects.proofs.fall.Tie as tie
 
-upstream-of-requires : tie.Need-upstream-of-requires
-upstream-of-requires c κs = search needs
-
-place-line-requires : tie.Need-place-line-requires
-place-line-requires c κs = search needs
-
 add-spared : tie.Need-add-spared
 add-spared c = omega (arith, line-there (c .before .before .pre .0) (c .before .upstream-of .ensures))
 
@@ -36,15 +30,6 @@ element-copy-out-spared-2 c = omega (arith, own-line (c .before .before .before 
 sub-spared-3 : tie.Need-sub-spared-3
 sub-spared-3 c = no-fewer (c .before .before .before .before .pre .0) (c .before .before .before .upstream-of .ensures) (c .before .before .before .before .args .sums .now) (c .before .before .before .before .pre .2) (c .before .before .place-line .ensures)
 
-weight-of-requires : tie.Need-weight-of-requires
-weight-of-requires c κs = search needs
-
-new-requires : tie.Need-new-requires
-new-requires c κs = search needs
-
-new-requires-2 : tie.Need-new-requires-2
-new-requires-2 c κs = search needs
-
 times-requires : tie.Need-times-requires
 times-requires c κs =
     let d = c .before .before .before .before .before .before .before in
@@ -60,8 +45,8 @@ pub fall-spec : {M : Type 1} → statement M
 fall-spec =
     tie.close
     (tie.spec
-    upstream-of-requires
-    place-line-requires
+    (λ c κs. search needs)
+    (search needs)
     add-spared
     sub-spared
     mul-spared
@@ -70,8 +55,8 @@ fall-spec =
     mul-spared-2
     element-copy-out-spared-2
     sub-spared-3
-    weight-of-requires
-    new-requires
-    new-requires-2
+    (λ c κs. search needs)
+    (search needs)
+    (search needs)
     times-requires
     returns)

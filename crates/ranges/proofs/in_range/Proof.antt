@@ -7,21 +7,6 @@ use borrow.Author.Needs.{needs}
 use Rattle.ranges.proofs.in_range.Statement.{statement}
 use Rattle.ranges.proofs.in_range.Tie as tie
 
-mul-range : tie.Need-mul-range
-mul-range c = search needs
-
-mul-range-2 : tie.Need-mul-range-2
-mul-range-2 c = search needs
-
-index-1-range : tie.Need-index-1-range
-index-1-range c = search needs
-
-index-2-range : tie.Need-index-2-range
-index-2-range c = search needs
-
-largest-of-requires : tie.Need-largest-of-requires
-largest-of-requires c κs = search needs
-
 returns : tie.Need-returns
 unfolding entry
 returns c =
@@ -40,10 +25,10 @@ pub in-range-spec : {M : Type 1} → statement M
 in-range-spec =
     tie.close
     (tie.spec
-    mul-range
-    mul-range-2
-    index-1-range
-    index-2-range
-    largest-of-requires
+    (search needs)
+    (search needs)
+    (λ c. search needs)
+    (λ c. search needs)
+    (search needs)
     returns
     returns-2)

@@ -4,18 +4,6 @@ use borrow.Author.Needs.{needs}
 use Rattle.ranges.proofs.largest_of.Statement.{statement}
 use Rattle.ranges.proofs.largest_of.Tie as tie
 
-enum-known-largest : tie.Need-enum-known-largest
-enum-known-largest c = search needs
-
-enum-told : tie.Need-enum-told
-enum-told c = search needs
-
-enum-told-2 : tie.Need-enum-told-2
-enum-told-2 c = search needs
-
-enum-known-largest-2 : tie.Need-enum-known-largest-2
-enum-known-largest-2 c = search needs
-
 returns : tie.Need-returns
 unfolding largestOf
 returns c = rw (c .before .largest .given .1)
@@ -40,10 +28,10 @@ pub largest-of-spec : {M : Type 1} → statement M
 largest-of-spec =
     tie.close
     (tie.spec
-    enum-known-largest
-    enum-told
-    enum-told-2
-    enum-known-largest-2
+    (search needs)
+    (search needs)
+    (search needs)
+    (search needs)
     returns
     returns-2
     returns-3

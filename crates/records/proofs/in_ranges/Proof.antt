@@ -22,15 +22,6 @@ abbrev μ-loop : tie.MeasureT-loop
 loop-holds : tie.Need-loop-holds Inv-loop μ-loop
 loop-holds c = (refl, omega arith, refl)
 
-mul-in-range : tie.Need-mul-in-range Inv-loop μ-loop
-mul-in-range c = search needs
-
-shared-slice-read-in-range : tie.Need-shared-slice-read-in-range Inv-loop μ-loop
-shared-slice-read-in-range c = search needs
-
-shared-slice-read-in-range-2 : tie.Need-shared-slice-read-in-range-2 Inv-loop μ-loop
-shared-slice-read-in-range-2 c = search needs
-
 in-range-requires : tie.Need-in-range-requires Inv-loop μ-loop
 in-range-requires c κs = omega (arith, row-short (c .before .before .before .before .before .args .kind))
 
@@ -41,12 +32,6 @@ returns c =
     sym (out-of-range (a .stations) (a .lines) (value (a .numbers .now) 0) (getD rows (a .kind) []) (a .numbers .now) (l .field) (omega arith) (omega arith)
     (sym (c .before .in-range .ensures) ∙ not-true (c .before .in-range .result) (c .if1 .taken)))
     ∙ l .inv .2
-
-add-field : tie.Need-add-field Inv-loop μ-loop
-add-field c = search needs
-
-loop-less : tie.Need-loop-less Inv-loop μ-loop
-loop-less c = search needs
 
 loop-again : tie.Need-loop-again Inv-loop μ-loop
 loop-again c =
@@ -72,12 +57,12 @@ in-ranges-spec =
     Inv-loop
     μ-loop
     loop-holds
-    mul-in-range
-    shared-slice-read-in-range
-    shared-slice-read-in-range-2
+    (search needs)
+    (search needs)
+    (search needs)
     in-range-requires
     returns
-    add-field
-    loop-less
+    (search needs)
+    (search needs)
     loop-again
     returns-2)

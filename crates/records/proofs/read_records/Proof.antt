@@ -27,9 +27,6 @@ Inv-loop file from kind first count stations lines numbers₀ width at₀ k₀ n
 abbrev μ-loop : tie.MeasureT-loop
 μ-loop file from kind first count stations lines numbers₀ width at₀ k₀ numbers at k = count - k
 
-width-of-requires : tie.Need-width-of-requires Inv-loop μ-loop
-width-of-requires c κs = search needs
-
 loop-holds : tie.Need-loop-holds Inv-loop μ-loop
 unfolding recordsIn
 loop-holds c =
@@ -49,17 +46,8 @@ mul-a c = omega (arith, room (c .before .loop .k) (c .before .before .before .be
 add-e : tie.Need-add-e Inv-loop μ-loop
 add-e c = omega (arith, room (c .before .loop .k) (c .before .before .before .before .before .args .count) (c .before .before .width-of .result) (omega arith))
 
-add-read-record : tie.Need-add-read-record Inv-loop μ-loop
-add-read-record c = search needs
-
 mul-read-record : tie.Need-mul-read-record Inv-loop μ-loop
 mul-read-record c = omega (arith, room (c .before .loop .k) (c .before .before .before .before .before .args .count) (c .before .before .width-of .result) (omega arith))
-
-sub-read-record : tie.Need-sub-read-record Inv-loop μ-loop
-sub-read-record c = search needs
-
-part-read-record-start : tie.Need-part-read-record-start Inv-loop μ-loop
-part-read-record-start c = search needs
 
 part-read-record-end : tie.Need-part-read-record-end Inv-loop μ-loop
 part-read-record-end c = omega (arith, room (c .before .loop .k) (c .before .before .before .before .before .args .count) (c .before .before .width-of .result) (omega arith))
@@ -72,12 +60,6 @@ read-record-requires c κs = (
       ∙ c .before .before .loop .inv .0,
 )
 
-enum-known-step : tie.Need-enum-known-step Inv-loop μ-loop
-enum-known-step c = search needs
-
-same-length : tie.Need-same-length Inv-loop μ-loop
-same-length c = search needs
-
 returns : tie.Need-returns Inv-loop μ-loop
 unfolding stepSays within
 returns c =
@@ -89,15 +71,6 @@ returns c =
           ∙ l .inv .5,
       tt,
     )
-
-enum-known-step-2 : tie.Need-enum-known-step-2 Inv-loop μ-loop
-enum-known-step-2 c = search needs
-
-add-k : tie.Need-add-k Inv-loop μ-loop
-add-k c = search needs
-
-loop-less : tie.Need-loop-less Inv-loop μ-loop
-loop-less c = search needs
 
 loop-again : tie.Need-loop-again Inv-loop μ-loop
 loop-again c =
@@ -122,9 +95,6 @@ loop-again c =
           ∙ l .inv .5,
     )
 
-same-length-2 : tie.Need-same-length-2 Inv-loop μ-loop
-same-length-2 c = search needs
-
 returns-2 : tie.Need-returns-2 Inv-loop μ-loop
 unfolding stepSays within
 returns-2 c =
@@ -142,22 +112,22 @@ read-records-spec =
     (tie.spec
     Inv-loop
     μ-loop
-    width-of-requires
+    (search needs)
     loop-holds
     mul-a
     add-e
-    add-read-record
+    (search needs)
     mul-read-record
-    sub-read-record
-    part-read-record-start
+    (search needs)
+    (search needs)
     part-read-record-end
     read-record-requires
-    enum-known-step
-    same-length
+    (search needs)
+    (search needs)
     returns
-    enum-known-step-2
-    add-k
-    loop-less
+    (search needs)
+    (search needs)
+    (search needs)
     loop-again
-    same-length-2
+    (search needs)
     returns-2)

@@ -4,16 +4,10 @@ use borrow.Author.Needs.{needs}
 use Rattle.records.proofs.width_of.Statement.{statement}
 use Rattle.records.proofs.width_of.Tie as tie
 
-mul-result : tie.Need-mul-result
-mul-result c = search needs
-
-array-read-result : tie.Need-array-read-result
-array-read-result c = search needs
-
 returns : tie.Need-returns
 returns c =
     let k = c .args .kind in
     (row-width k, omega (arith, row-width k, row-short k))
 
 pub width-of-spec : {M : Type 1} → statement M
-width-of-spec = tie.close (tie.spec mul-result array-read-result returns)
+width-of-spec = tie.close (tie.spec (search needs) (search needs) returns)

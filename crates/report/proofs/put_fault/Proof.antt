@@ -10,33 +10,12 @@ use borrow.Author.Needs.{needs}
 use Rattle.report.proofs.put_fault.Statement.{statement}
 use Rattle.report.proofs.put_fault.Tie as tie
 
-sub-impact : tie.Need-sub-impact
-sub-impact c = search needs
-
-mul-impact : tie.Need-mul-impact
-mul-impact c = search needs
-
-element-copy-out-impact : tie.Need-element-copy-out-impact
-element-copy-out-impact c = search needs
-
 outage-amount-requires : tie.Need-outage-amount-requires
 outage-amount-requires c κs =
     let s = c .before .before in
     let N = networkIn (s .args .net .now) in
     let l = s .args .line in
     (record { fits = read-fits N (s .pre .0 .read); low = s .pre .2; high = s .pre .3 }, read-sized N (s .pre .0 .read), s .pre .1 l (s .pre .2) (s .pre .3))
-
-number-requires : tie.Need-number-requires
-number-requires c κs = search needs
-
-slice-aggregate-put-line : tie.Need-slice-aggregate-put-line
-slice-aggregate-put-line c = search needs
-
-put-line-requires : tie.Need-put-line-requires
-put-line-requires c κs = search needs
-
-same-length : tie.Need-same-length
-same-length c = search needs
 
 returns : tie.Need-returns
 returns c =
@@ -53,12 +32,12 @@ pub put-fault-spec : {M : Type 1} → statement M
 put-fault-spec =
     tie.close
     (tie.spec
-    sub-impact
-    mul-impact
-    element-copy-out-impact
+    (search needs)
+    (search needs)
+    (search needs)
     outage-amount-requires
-    number-requires
-    slice-aggregate-put-line
-    put-line-requires
-    same-length
+    (search needs)
+    (search needs)
+    (search needs)
+    (search needs)
     returns)

@@ -19,37 +19,13 @@ Inv-loop net impacts buf₀ at₀ i₀ i-end buf at i =
 abbrev μ-loop : tie.MeasureT-loop
 μ-loop net impacts buf₀ at₀ i₀ i-end buf at i = i-end - i
 
-line-count-requires : tie.Need-line-count-requires Inv-loop μ-loop
-line-count-requires c κs = search needs
-
 loop-holds : tie.Need-loop-holds Inv-loop μ-loop
 loop-holds c = (search needs, omega arith, omega arith, listed-none _ _ _)
-
-add-put-fault : tie.Need-add-put-fault Inv-loop μ-loop
-add-put-fault c = search needs
-
-sub-put-fault : tie.Need-sub-put-fault Inv-loop μ-loop
-sub-put-fault c = search needs
-
-part-put-fault-start : tie.Need-part-put-fault-start Inv-loop μ-loop
-part-put-fault-start c = search needs
-
-part-put-fault-end : tie.Need-part-put-fault-end Inv-loop μ-loop
-part-put-fault-end c = search needs
 
 put-fault-requires : tie.Need-put-fault-requires Inv-loop μ-loop
 put-fault-requires c κs =
     let s = c .before .before .before .before .before in
     (s .pre .0, s .pre .1, omega arith, omega arith, simp (length-take, length-drop) (omega (arith, read-sized _ (s .pre .0 .read) .lineCount)))
-
-add-at : tie.Need-add-at Inv-loop μ-loop
-add-at c = search needs
-
-add-i : tie.Need-add-i Inv-loop μ-loop
-add-i c = search needs
-
-loop-less : tie.Need-loop-less Inv-loop μ-loop
-loop-less c = search needs
 
 loop-again : tie.Need-loop-again Inv-loop μ-loop
 unfolding over
@@ -78,16 +54,16 @@ put-faults-spec =
     (tie.spec
     Inv-loop
     μ-loop
-    line-count-requires
+    (search needs)
     loop-holds
-    add-put-fault
-    sub-put-fault
-    part-put-fault-start
-    part-put-fault-end
+    (search needs)
+    (search needs)
+    (search needs)
+    (search needs)
     put-fault-requires
-    add-at
-    add-i
-    loop-less
+    (search needs)
+    (search needs)
+    (search needs)
     loop-again
     same-length
     returns)

@@ -6,21 +6,6 @@ use borrow.Author.Needs.{needs}
 use Rattle.report.proofs.put_member.Statement.{statement}
 use Rattle.report.proofs.put_member.Tie as tie
 
-place-line-requires : tie.Need-place-line-requires
-place-line-requires c κs = search needs
-
-place-side-requires : tie.Need-place-side-requires
-place-side-requires c κs = search needs
-
-slice-aggregate-put-line : tie.Need-slice-aggregate-put-line
-slice-aggregate-put-line c = search needs
-
-put-line-requires : tie.Need-put-line-requires
-put-line-requires c κs = search needs
-
-same-length : tie.Need-same-length
-same-length c = search needs
-
 returns : tie.Need-returns
 returns c =
     let s = c .before .before .before .before .before .before .before .before in
@@ -33,9 +18,9 @@ pub put-member-spec : {M : Type 1} → statement M
 put-member-spec =
     tie.close
     (tie.spec
-    place-line-requires
-    place-side-requires
-    slice-aggregate-put-line
-    put-line-requires
-    same-length
+    (search needs)
+    (search needs)
+    (search needs)
+    (search needs)
+    (search needs)
     returns)

@@ -21,34 +21,10 @@ abbrev μ-loop : tie.MeasureT-loop
 loop-holds : tie.Need-loop-holds Inv-loop μ-loop
 loop-holds c = (omega arith, omega arith, listed-none _ _ _)
 
-mul-put-member : tie.Need-mul-put-member Inv-loop μ-loop
-mul-put-member c = search needs
-
-shared-slice-read-put-member : tie.Need-shared-slice-read-put-member Inv-loop μ-loop
-shared-slice-read-put-member c = search needs
-
-sub-put-member : tie.Need-sub-put-member Inv-loop μ-loop
-sub-put-member c = search needs
-
-part-put-member-start : tie.Need-part-put-member-start Inv-loop μ-loop
-part-put-member-start c = search needs
-
-part-put-member-end : tie.Need-part-put-member-end Inv-loop μ-loop
-part-put-member-end c = search needs
-
 put-member-requires : tie.Need-put-member-requires Inv-loop μ-loop
 put-member-requires c κs =
     let s = c .before .before .before .before .before .before in
     (s .pre .0 (c .before .before .before .loop .i) (omega arith), simp (length-take, length-drop) (omega arith))
-
-add-at : tie.Need-add-at Inv-loop μ-loop
-add-at c = search needs
-
-add-i : tie.Need-add-i Inv-loop μ-loop
-add-i c = search needs
-
-loop-less : tie.Need-loop-less Inv-loop μ-loop
-loop-less c = search needs
 
 loop-again : tie.Need-loop-again Inv-loop μ-loop
 unfolding over
@@ -78,15 +54,15 @@ put-members-spec =
     Inv-loop
     μ-loop
     loop-holds
-    mul-put-member
-    shared-slice-read-put-member
-    sub-put-member
-    part-put-member-start
-    part-put-member-end
+    (search needs)
+    (search needs)
+    (search needs)
+    (search needs)
+    (search needs)
     put-member-requires
-    add-at
-    add-i
-    loop-less
+    (search needs)
+    (search needs)
+    (search needs)
     loop-again
     same-length
     returns)

@@ -5,18 +5,6 @@ use borrow.Author.Needs.{needs}
 use Rattle.report.proofs.put_outcome.Statement.{statement}
 use Rattle.report.proofs.put_outcome.Tie as tie
 
-finished-number-requires : tie.Need-finished-number-requires
-finished-number-requires c κs = search needs
-
-slice-aggregate-put-line : tie.Need-slice-aggregate-put-line
-slice-aggregate-put-line c = search needs
-
-put-line-requires : tie.Need-put-line-requires
-put-line-requires c κs = search needs
-
-same-length : tie.Need-same-length
-same-length c = search needs
-
 returns : tie.Need-returns
 returns c =
     let p = c .before .before .put-line in
@@ -27,8 +15,8 @@ pub put-outcome-spec : {M : Type 1} → statement M
 put-outcome-spec =
     tie.close
     (tie.spec
-    finished-number-requires
-    slice-aggregate-put-line
-    put-line-requires
-    same-length
+    (search needs)
+    (search needs)
+    (search needs)
+    (search needs)
     returns)

@@ -6,15 +6,6 @@ use borrow.Author.Needs.{needs}
 use Rattle.report.proofs.put_totals.Statement.{statement}
 use Rattle.report.proofs.put_totals.Tie as tie
 
-slice-aggregate-put-line : tie.Need-slice-aggregate-put-line
-slice-aggregate-put-line c = search needs
-
-put-line-requires : tie.Need-put-line-requires
-put-line-requires c κs = search needs
-
-same-length : tie.Need-same-length
-same-length c = search needs
-
 returns : tie.Need-returns
 returns c =
     let s = c .before .before .before .before .before .before in
@@ -25,4 +16,4 @@ returns c =
 
 pub put-totals-spec : {M : Type 1} → statement M
 put-totals-spec =
-    tie.close (tie.spec slice-aggregate-put-line put-line-requires same-length returns)
+    tie.close (tie.spec (search needs) (search needs) (search needs) returns)

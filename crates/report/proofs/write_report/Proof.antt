@@ -13,64 +13,16 @@ use borrow.Author.Needs.{needs}
 use Rattle.report.proofs.write_report.Statement.{statement}
 use Rattle.report.proofs.write_report.Tie as tie
 
-figure-of-requires : tie.Need-figure-of-requires
-figure-of-requires c κs = search needs
-
-put-totals-requires : tie.Need-put-totals-requires
-put-totals-requires c κs = search needs
-
-sub-put-faults : tie.Need-sub-put-faults
-sub-put-faults c = search needs
-
-part-put-faults-start : tie.Need-part-put-faults-start
-part-put-faults-start c = search needs
-
-part-put-faults-end : tie.Need-part-put-faults-end
-part-put-faults-end c = search needs
-
-put-faults-requires : tie.Need-put-faults-requires
-put-faults-requires c κs = search needs
-
-add-at : tie.Need-add-at
-add-at c = search needs
-
-sub-put-found : tie.Need-sub-put-found
-sub-put-found c = search needs
-
-part-put-found-start : tie.Need-part-put-found-start
-part-put-found-start c = search needs
-
-part-put-found-end : tie.Need-part-put-found-end
-part-put-found-end c = search needs
-
 put-found-requires : tie.Need-put-found-requires
 put-found-requires c κs =
     let s = c .before .before .before .before .before .before .before .before .before .before .before in
     (s .pre .0 .accepted .read, best-size (s .pre .0), search needs)
-
-add-at-2 : tie.Need-add-at-2
-add-at-2 c = search needs
-
-sub-put-members : tie.Need-sub-put-members
-sub-put-members c = search needs
-
-part-put-members-start : tie.Need-part-put-members-start
-part-put-members-start c = search needs
-
-part-put-members-end : tie.Need-part-put-members-end
-part-put-members-end c = search needs
 
 put-members-requires : tie.Need-put-members-requires
 put-members-requires c κs =
     let s = c .before .before .before .before .before .before .before .before .before .before .before .before .before .before .before .before in
     let long : length (s .args .members .now) ≡ 16 = search needs in
     (are-places _ _ _ _ _ _ _ _ long (s .pre .0), long, s .pre .0 .few, search needs)
-
-add-result : tie.Need-add-result
-add-result c = search needs
-
-same-length : tie.Need-same-length
-same-length c = search needs
 
 returns : tie.Need-returns
 unfolding over
@@ -96,22 +48,22 @@ pub write-report-spec : {M : Type 1} → statement M
 write-report-spec =
     tie.close
     (tie.spec
-    figure-of-requires
-    put-totals-requires
-    sub-put-faults
-    part-put-faults-start
-    part-put-faults-end
-    put-faults-requires
-    add-at
-    sub-put-found
-    part-put-found-start
-    part-put-found-end
+    (λ c κs. search needs)
+    (search needs)
+    (search needs)
+    (search needs)
+    (search needs)
+    (λ c κs. search needs)
+    (search needs)
+    (search needs)
+    (search needs)
+    (search needs)
     put-found-requires
-    add-at-2
-    sub-put-members
-    part-put-members-start
-    part-put-members-end
+    (search needs)
+    (search needs)
+    (search needs)
+    (search needs)
     put-members-requires
-    add-result
-    same-length
+    (search needs)
+    (search needs)
     returns)

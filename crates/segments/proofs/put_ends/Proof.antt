@@ -8,12 +8,6 @@ use borrow.Author.Needs.{needs}
 use Rattle.segments.proofs.put_ends.Statement.{statement}
 use Rattle.segments.proofs.put_ends.Tie as tie
 
-put-end-requires : tie.Need-put-end-requires
-put-end-requires c κs = search needs
-
-put-end-requires-2 : tie.Need-put-end-requires-2
-put-end-requires-2 c κs = search needs
-
 returns : tie.Need-returns
 unfolding over
 returns c =
@@ -28,12 +22,12 @@ pub put-ends-spec : {M : Type 1} → statement M
 put-ends-spec =
     tie.close
     (tie.spec
-    put-end-requires
+    (λ c κs. search needs)
     (search needs)
     (search needs)
     (search needs)
     (search needs)
-    put-end-requires-2
+    (λ c κs. search needs)
     (search needs)
     (search needs)
     returns)

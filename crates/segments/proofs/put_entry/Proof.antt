@@ -16,9 +16,6 @@ slice-write-table-3 c = simp length-set (omega arith)
 slice-write-table-4 : tie.Need-slice-write-table-4
 slice-write-table-4 c = simp length-set (omega arith)
 
-slice-write-table-5 : tie.Need-slice-write-table-5
-slice-write-table-5 c = search needs
-
 returns : tie.Need-returns
 returns c =
     let s = c .before .before .before .before .before in
@@ -38,6 +35,6 @@ put-entry-spec =
     slice-write-table-4
     (search needs)
     (search needs)
-    slice-write-table-5
+    (λ c. search needs)
     (search needs)
     returns)

@@ -4,31 +4,16 @@ use lib.Seq.{length-take-le}
 use Rattle.text_test.proofs.show.Statement.{statement}
 use Rattle.text_test.proofs.show.Tie as tie
 
-slice-aggregate-put-line : tie.Need-slice-aggregate-put-line
-slice-aggregate-put-line c = search needs
-
-put-line-requires : tie.Need-put-line-requires
-put-line-requires c κs = search needs
-
-array-share-prefix-line : tie.Need-array-share-prefix-line
-array-share-prefix-line c = search needs
-
 slice-aggregate-write-all : tie.Need-slice-aggregate-write-all
 slice-aggregate-write-all c = sym (length-take-le _ _ (search needs))
-
-write-all-requires : tie.Need-write-all-requires
-write-all-requires c κs = search needs
-
-returns : tie.Need-returns
-returns c = search needs
 
 pub show-spec : {M : Type 1} → statement M
 show-spec =
     tie.close
     (tie.spec
-    slice-aggregate-put-line
-    put-line-requires
-    array-share-prefix-line
+    (search needs)
+    (search needs)
+    (search needs)
     slice-aggregate-write-all
-    write-all-requires
-    returns)
+    (search needs)
+    (search needs))
