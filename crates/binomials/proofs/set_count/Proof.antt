@@ -14,20 +14,8 @@ Inv-loop table places additions sum₀ column₀ column-end sum column =
 abbrev μ-loop : tie.MeasureT-loop
 μ-loop table places additions sum₀ column₀ column-end sum column = column-end - column
 
-add-column-end : tie.Need-add-column-end Inv-loop μ-loop
-add-column-end c = omega arith
-
 loop-holds : tie.Need-loop-holds Inv-loop μ-loop
 loop-holds c = omega (arith, columns-all (c .args .places) (c .args .additions))
-
-add-sum : tie.Need-add-sum Inv-loop μ-loop
-add-sum c = omega arith
-
-add-column : tie.Need-add-column Inv-loop μ-loop
-add-column c = omega arith
-
-loop-less : tie.Need-loop-less Inv-loop μ-loop
-loop-less c = omega arith
 
 loop-again : tie.Need-loop-again Inv-loop μ-loop
 loop-again c = omega (arith, columns-first (c .before .before .before .args .places) (c .before .before .loop .column) (c .before .before .before .args .additions + 1) (omega arith))
@@ -41,11 +29,11 @@ set-count-spec =
     (tie.spec
     Inv-loop
     μ-loop
-    add-column-end
+    (search needs)
     loop-holds
     (λ c κs. search needs)
-    add-sum
-    add-column
-    loop-less
+    (search needs)
+    (search needs)
+    (search needs)
     loop-again
     returns)

@@ -2,6 +2,7 @@ use native.Mathlib.Omega.{arith}
 use Prim.Native.Nat.{_-_}
 use mathlib.Core.Path.{refl}
 use lib.ListN.{replicate}
+use borrow.Author.Needs.{needs}
 use Rattle.bounds.proofs.Columns.{Built, built-none, built-more, ordered-before, ordered-after, ordered-falls, ordered-small}
 use Rattle.bounds.proofs.fill_bounds.Statement.{statement}
 use Rattle.bounds.proofs.fill_bounds.Tie as tie
@@ -20,21 +21,6 @@ loop-holds c =
     let d = c .before .before .before in
     built-none (d .args .savings .now) (d .args .count) (d .pre .1) (d .args .bounds .now) (c .write-sums .last .1 .1 .1 .0) (replicate 64 0) refl (c .write-sums .ensures)
 
-sub-q : tie.Need-sub-q Inv-loop μ-loop
-sub-q c = omega arith
-
-sub-insert-falling : tie.Need-sub-insert-falling Inv-loop μ-loop
-sub-insert-falling c = omega arith
-
-sub-insert-falling-2 : tie.Need-sub-insert-falling-2 Inv-loop μ-loop
-sub-insert-falling-2 c = omega arith
-
-mul-insert-falling : tie.Need-mul-insert-falling Inv-loop μ-loop
-mul-insert-falling c = omega arith
-
-element-copy-out-insert-falling : tie.Need-element-copy-out-insert-falling Inv-loop μ-loop
-element-copy-out-insert-falling c = omega arith
-
 insert-falling-requires : tie.Need-insert-falling-requires Inv-loop μ-loop
 insert-falling-requires c κs =
     let d = c .before .before .before .before .before .before .before in
@@ -44,9 +30,6 @@ insert-falling-requires c κs =
       ordered-falls (d .args .savings .now) (d .args .count) (d .pre .1) (d .args .count - (l .q - 1) - 1) (l .q) (l .list)
           (ordered-before (d .args .savings .now) (d .args .count) (d .pre .1) (l .q) (c .before .before .loop-test .taken) (l .bounds) (l .list) (l .inv)),
     )
-
-sub-write-sums : tie.Need-sub-write-sums Inv-loop μ-loop
-sub-write-sums c = omega arith
 
 write-sums-requires-2 : tie.Need-write-sums-requires-2 Inv-loop μ-loop
 write-sums-requires-2 c κs =
@@ -60,9 +43,6 @@ write-sums-requires-2 c κs =
       ordered-small (d .args .savings .now) (d .args .count) (d .pre .1) (d .args .count - (l .q - 1)) (l .q - 1) (i .last .0)
           (ordered-after (d .args .savings .now) (d .args .count) (d .pre .1) (l .q) (c .before .before .before .before .before .loop-test .taken) (l .bounds) (l .list) (l .inv) (i .last .0) (i .ensures .1)),
     )
-
-loop-less : tie.Need-loop-less Inv-loop μ-loop
-loop-less c = omega arith
 
 loop-again : tie.Need-loop-again Inv-loop μ-loop
 loop-again c =
@@ -86,14 +66,14 @@ fill-bounds-spec =
     μ-loop
     write-sums-requires
     loop-holds
-    sub-q
-    sub-insert-falling
-    sub-insert-falling-2
-    mul-insert-falling
-    element-copy-out-insert-falling
+    (search needs)
+    (search needs)
+    (search needs)
+    (search needs)
+    (search needs)
     insert-falling-requires
-    sub-write-sums
+    (search needs)
     write-sums-requires-2
-    loop-less
+    (search needs)
     loop-again
     returns)

@@ -3,6 +3,7 @@ use mathlib.Core.Path.{_≡_, refl, _∙_}
 use mathlib.Core.Logic.{⊎-elim}
 use native.Mathlib.Omega.{arith}
 use lib.ListN.{take}
+use borrow.Author.Needs.{needs}
 use Rattle.model.specs.Lists.{sum}
 use Rattle.theory.specs.Sizes.{take-most}
 use Rattle.bounds.proofs.Columns.{Rows, rows-none, rows-more, sum-within, sum-beyond}
@@ -19,36 +20,12 @@ loop-holds : tie.Need-loop-holds Inv-loop μ-loop
 unfolding sum
 loop-holds c = (omega arith, refl, rows-none (take (c .args .size) (c .args .list .now)) (c .args .q) (c .args .bounds .now) (c .pre .0))
 
-mul-bounds : tie.Need-mul-bounds Inv-loop μ-loop
-mul-bounds c = omega arith
-
-add-bounds : tie.Need-add-bounds Inv-loop μ-loop
-add-bounds c = omega arith
-
-mul-bounds-2 : tie.Need-mul-bounds-2 Inv-loop μ-loop
-mul-bounds-2 c = omega arith
-
-element-write-bounds : tie.Need-element-write-bounds Inv-loop μ-loop
-element-write-bounds c = omega arith
-
-mul-sum : tie.Need-mul-sum Inv-loop μ-loop
-mul-sum c = omega arith
-
-element-copy-out-sum : tie.Need-element-copy-out-sum Inv-loop μ-loop
-element-copy-out-sum c = omega arith
-
 add-sum : tie.Need-add-sum Inv-loop μ-loop
 add-sum c =
     let d = c .before .before .before .before in
     let l = c .before .before .before .loop in
     let xs = take (d .args .size) (d .args .list .now) in
     omega (arith, sum-within (d .args .list .now) (d .args .size) (l .r) (l .sum) (l .inv .1) (omega arith), take-most 7864320000000000 (l .r + 1) xs (d .pre .4))
-
-add-r : tie.Need-add-r Inv-loop μ-loop
-add-r c = omega arith
-
-loop-less : tie.Need-loop-less Inv-loop μ-loop
-loop-less c = omega arith
 
 loop-again : tie.Need-loop-again Inv-loop μ-loop
 loop-again c =
@@ -73,14 +50,14 @@ write-sums-spec =
     Inv-loop
     μ-loop
     loop-holds
-    mul-bounds
-    add-bounds
-    mul-bounds-2
-    element-write-bounds
-    mul-sum
-    element-copy-out-sum
+    (search needs)
+    (search needs)
+    (search needs)
+    (search needs)
+    (search needs)
+    (search needs)
     add-sum
-    add-r
-    loop-less
+    (search needs)
+    (search needs)
     loop-again
     returns)

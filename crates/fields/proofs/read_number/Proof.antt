@@ -54,12 +54,6 @@ returns-5 c =
 mul-v : tie.Need-mul-v Inv-loop μ-loop
 mul-v c = omega (arith, below-ten-digits (c .before .before .before .before .loop .i) (omega arith))
 
-cast-v : tie.Need-cast-v Inv-loop μ-loop
-cast-v c = omega arith
-
-sub-v : tie.Need-sub-v Inv-loop μ-loop
-sub-v c = omega arith
-
 add-v : tie.Need-add-v Inv-loop μ-loop
 add-v c = omega (arith, below-ten-digits (c .before .before .before .before .loop .i) (omega arith))
 
@@ -96,8 +90,8 @@ read-number-spec =
     returns-4
     returns-5
     mul-v
-    cast-v
-    sub-v
+    (search needs)
+    (search needs)
     add-v
     (search needs)
     (search needs)

@@ -1,6 +1,6 @@
 use Prim.Native.Nat.{_+_, _-_}
 use mathlib.Core.Path.{_∙_}
-use native.Mathlib.Omega.{arith}
+use borrow.Author.Needs.{needs}
 use Rattle.buffer.specs.Buffer.{networkIn}
 use Rattle.prospects.proofs.Saving.{Saved, saving-is, saved-none, next-later, saved-more, saved-all}
 use Rattle.prospects.proofs.savings_of.Statement.{statement}
@@ -18,9 +18,6 @@ place-count-requires c κs = tt
 loop-holds : tie.Need-loop-holds Inv-loop μ-loop
 loop-holds c = saved-none (networkIn (c .before .args .net .now)) (c .place-count .result) (c .before .args .savings .now) (c .before .pre .0 .accepted) (c .place-count .ensures) (c .before .pre .2)
 
-add-fall : tie.Need-add-fall Inv-loop μ-loop
-add-fall c = omega arith
-
 fall-requires : tie.Need-fall-requires Inv-loop μ-loop
 fall-requires c κs =
     let d = c .before .before .before .before in
@@ -30,18 +27,6 @@ fall-requires c κs =
 
 number-requires : tie.Need-number-requires Inv-loop μ-loop
 number-requires c κs = tt
-
-mul-savings : tie.Need-mul-savings Inv-loop μ-loop
-mul-savings c = omega arith
-
-element-write-savings : tie.Need-element-write-savings Inv-loop μ-loop
-element-write-savings c = omega arith
-
-add-i : tie.Need-add-i Inv-loop μ-loop
-add-i c = omega arith
-
-loop-less : tie.Need-loop-less Inv-loop μ-loop
-loop-less c = omega arith
 
 loop-again : tie.Need-loop-again Inv-loop μ-loop
 loop-again c =
@@ -59,12 +44,12 @@ savings-of-spec =
     μ-loop
     place-count-requires
     loop-holds
-    add-fall
+    (search needs)
     fall-requires
     number-requires
-    mul-savings
-    element-write-savings
-    add-i
-    loop-less
+    (search needs)
+    (search needs)
+    (search needs)
+    (search needs)
     loop-again
     returns)

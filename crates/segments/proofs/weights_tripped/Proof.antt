@@ -23,9 +23,6 @@ loop-holds c =
     let w = c .before .no-weights .ensures in
     (omega arith, omega (arith, read-fits (networkIn (s .args .net .now)) (s .pre .0 .read) .lines), omega arith, w .1, λ code. omega (arith, w .0 code))
 
-trip-code-requires : tie.Need-trip-code-requires Inv-loop μ-loop
-trip-code-requires c κs = omega arith
-
 mul-weights : tie.Need-mul-weights Inv-loop μ-loop
 mul-weights c =
     let s = c .before .before .before .before .before .before in
@@ -35,9 +32,6 @@ element-copy-out-weights : tie.Need-element-copy-out-weights Inv-loop μ-loop
 element-copy-out-weights c =
     let s = c .before .before .before .before .before .before in
     omega (arith, trip-in (networkIn (s .args .net .now)) (s .pre .0 .read) (s .pre .0 .rules) (s .args .trips .now) (s .pre .1) (c .before .before .loop .i) (omega arith) (c .trip-code .result) (omega arith))
-
-add-weight : tie.Need-add-weight Inv-loop μ-loop
-add-weight c = omega arith
 
 weight-requires : tie.Need-weight-requires Inv-loop μ-loop
 weight-requires c κs = record { fits = read-fits _ (c .before .before .before .before .before .before .before .pre .0 .read); low = omega arith; high = omega arith }
@@ -59,12 +53,6 @@ element-write-weights : tie.Need-element-write-weights Inv-loop μ-loop
 element-write-weights c =
     let s = c .before .before .before .before .before .before .before .before in
     omega (arith, trip-in (networkIn (s .args .net .now)) (s .pre .0 .read) (s .pre .0 .rules) (s .args .trips .now) (s .pre .1) (c .before .before .before .before .loop .i) (omega arith) (c .before .before .trip-code .result) (omega arith))
-
-add-i : tie.Need-add-i Inv-loop μ-loop
-add-i c = omega arith
-
-loop-less : tie.Need-loop-less Inv-loop μ-loop
-loop-less c = omega arith
 
 loop-again : tie.Need-loop-again Inv-loop μ-loop
 loop-again c =
@@ -89,15 +77,15 @@ weights-tripped-spec =
     (search needs)
     (search needs)
     loop-holds
-    trip-code-requires
+    (search needs)
     mul-weights
     element-copy-out-weights
-    add-weight
+    (search needs)
     weight-requires
     add-weights
     mul-weights-2
     element-write-weights
-    add-i
-    loop-less
+    (search needs)
+    (search needs)
     loop-again
     returns)
