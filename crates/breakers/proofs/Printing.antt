@@ -3,12 +3,13 @@ use Prim.Native.Nat.{ℕ, _≤_}
 use mathlib.Core.Path.{_≡_, sym, ap, _∙_}
 use mathlib.Core.List.{List, [], _∷_, _++_}
 use native.Mathlib.Omega.{arith}
-use lib.ListN.{length, take, drop, length-append}
+use lib.ListN.{length, take, length-append}
 use lib.Seq.{take-at}
 use Rattle.model.specs.Answer.{Answer, given, refused, _>>=_}
 use Rattle.model.specs.Text.{printedLine, lineX}
 use Rattle.model.specs.Calls.{written, reported, reportAnswered, reportLeaves, reportSays, textOrX, printed}
 use Rattle.model.specs.declared.ReportAnswer.{ReportAnswer}
+use Rattle.text.specs.Over.{Written}
 use Rattle.engine.proofs.Reporting.{fileText, reported-is}
 
 -- the text at the start of a list, and no more than the list
@@ -51,9 +52,8 @@ module _ (file buffer : List ℕ) (h : 32768 ≤ length buffer) where
       written-starts buffer (fileText file buffer) n after (e ∙ ap measured s) (p ∙ ap (λ a. written a buffer) s)
 
   pub refusal-printed : (number place n : ℕ) (before after : List ℕ) → reportSays (ReportAnswer.Refused number place) ≡ reportAnswered file buffer
-      → n ≡ length (printedLine 88 (number ∷ place ∷ [])) → after ≡ printedLine 88 (number ∷ place ∷ []) ++ drop (length (printedLine 88 (number ∷ place ∷ []))) before
-      → (take n after ≡ printed file) × (n ≤ length after)
+      → Written (printedLine 88 (number ∷ place ∷ [])) before after n → (take n after ≡ printed file) × (n ≤ length after)
   unfolding reportSays reportAnswered printed
-  refusal-printed number place n before after e p q =
-      let s = starts (printedLine 88 (number ∷ place ∷ [])) _ after n p q in
+  refusal-printed number place n before after e w =
+      let s = starts (printedLine 88 (number ∷ place ∷ [])) _ after n (w .0) (w .1) in
       (s .0 ∙ refusal-text (fileText file buffer) number place (e ∙ ap measured (sym (reported-is file buffer h))), s .1)

@@ -1,21 +1,21 @@
 -- The parts of a report, one behind another.
 use Prim.Native.Nat.{ℕ, zero, suc, _≤_, _<_}
 use mathlib.Core.Path.{_≡_, sym, ap, _∙_}
-use mathlib.Core.Bool.{Bool, true, false}
-use mathlib.Core.List.{List, [], _∷_, _++_, flatMap, Sublistᴰ, Sublistᴰ·slnil, Sublistᴰ·cons, Sublistᴰ·cons-cons, List·Memᴰ, List·Memᴰ·head, List·Memᴰ·tail}
+use mathlib.Core.Bool.{Bool}
+use mathlib.Core.List.{List, _++_, Sublistᴰ, Sublistᴰ·slnil, Sublistᴰ·cons, Sublistᴰ·cons-cons, List·Memᴰ, List·Memᴰ·head, List·Memᴰ·tail}
 use native.Mathlib.Omega.{arith}
 use lib.ListN.{length, getD, take}
 use lib.Seq.{length-take-le, getD-take}
 use Rattle.model.specs.Network.{Network}
-use Rattle.model.specs.Paths.{lineNumbers}
 use Rattle.model.specs.Sets.{placeNumbers}
 use Rattle.model.specs.Walk.{Found, search}
-use Rattle.model.specs.Text.{printedLine, lineA, lineF, lineC, lineB, reportText}
+use Rattle.model.specs.Text.{lineA, lineC, reportText}
 use Rattle.theory.specs.Ends.{numbers-in}
 use Rattle.theory.specs.Sizes.{read-sized, setTotal-size}
 use Rattle.theory.specs.Best.{search-answered}
 use Rattle.buffer.specs.Buffer.{networkIn}
 use Rattle.outage.proofs.Calls.{read-fits}
+use Rattle.report.specs.Parts.{faultLines, outcomeLine, memberLines}
 use Rattle.report.specs.Ready.{ArePlaces, Answered}
 
 -- what every element of a list has, every element of a part of it has
@@ -50,13 +50,12 @@ module _ (N : Network) (impacts : List ℕ) (amount : ℕ) (members : List ℕ) 
       (omega (arith, r .0, k), omega (arith, r .1, k))
 
   pub report-is :
-      ((lineA N ++ flatMap (λ l. lineF N l) (lineNumbers N)) ++ printedLine 67 ((elim spent [ true ↦ 0 | false ↦ 1 ]) ∷ visits ∷ count ∷ best ∷ []))
-      ++ flatMap (λ p. lineB N p) (take count members) ≡ reportText N
+      ((lineA N ++ faultLines N) ++ outcomeLine spent visits count best) ++ memberLines N (take count members) ≡ reportText N
   unfolding reportText lineC
   report-is =
-      let s : List ℕ = lineA N ++ flatMap (λ l. lineF N l) (lineNumbers N) in
-      ap (λ (n : ℕ). (s ++ printedLine 67 ((elim spent [ true ↦ 0 | false ↦ 1 ]) ∷ visits ∷ n ∷ best ∷ [])) ++ flatMap (λ p. lineB N p) (take count members)) (sym counted)
-      ∙ ap (λ (f : Found). (s ++ lineC f) ++ flatMap (λ p. lineB N p) (f .members)) (a .found)
+      let s : List ℕ = lineA N ++ faultLines N in
+      ap (λ (n : ℕ). (s ++ outcomeLine spent visits n best) ++ memberLines N (take count members)) (sym counted)
+      ∙ ap (λ (f : Found). (s ++ lineC f) ++ memberLines N (f .members)) (a .found)
 
 -- the members of the search are places of the buffer's network
 pub are-places : (b impacts : List ℕ) (amount : ℕ) (members : List ℕ) (count best visits : ℕ) (spent : Bool) → length members ≡ 16

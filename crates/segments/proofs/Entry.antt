@@ -12,11 +12,9 @@ use Rattle.model.specs.Segments.{weightTripped, segmentAmount, segment}
 use Rattle.theory.specs.Sizes.{read-sized}
 use Rattle.theory.specs.Segments.{segmentAmount-size}
 use Rattle.theory.specs.Ends.{breaker-closed}
-use Rattle.theory.specs.Best.{Accepted}
 use Rattle.buffer.specs.Fits.{endIn}
-use Rattle.outage.specs.Held.{HoldsCustomers}
 use Rattle.outage.proofs.Paths.{behind-line}
-use Rattle.segments.specs.Entries.{HoldsWeights, entryOf}
+use Rattle.segments.specs.Entries.{Summed, entryOf}
 
 pub five : (b : List ℕ) (v w x y z : ℕ) → 5 ≤ length b → set (set (set (set (set b 0 v) 1 w) 2 x) 3 y) 4 z ≡ v ∷ w ∷ x ∷ y ∷ z ∷ drop 5 b
 five [] v w x y z h = absurd (omega arith)
@@ -34,13 +32,13 @@ module _ (N : Network) (l side : ℕ) where
   pub entry-none : isBreaker N e ≡ false → entryOf N e ≡ []
   entry-none h = λ i. elim (h i) [ true ↦ segment N e | false ↦ [] ]
 
-  module _ (a : Accepted N) (sums weights : List ℕ) (hs : HoldsCustomers N sums) (hw : HoldsWeights N weights) (low : 1 ≤ l) (high : l ≤ length (N .lines)) (h : isBreaker N e ≡ true)
+  module _ (sums weights : List ℕ) (a : Summed N sums weights) (low : 1 ≤ l) (high : l ≤ length (N .lines)) (h : isBreaker N e ≡ true)
       (w c : ℕ) (p : w ≡ getD weights (2 * l + side - 2) 0) (q : c ≡ getD sums (l - 1) 0) where
     weight-is : w ≡ weightTripped N e
-    weight-is = p ∙ hw e h
+    weight-is = p ∙ a .tripped e h
 
     customers-is : c ≡ customersBehind N e
-    customers-is = q ∙ hs l low high ∙ sym (behind-line N (a .read) (a .rules) e (breaker-closed N e h))
+    customers-is = q ∙ a .behind l low high ∙ sym (behind-line N (a .accepted .read) (a .accepted .rules) e (breaker-closed N e h))
 
     amount-is : w * c ≡ segmentAmount N e
     unfolding segmentAmount
@@ -48,7 +46,7 @@ module _ (N : Network) (l side : ℕ) where
 
     -- the product fits
     pub amount-fits : w * c < 2 ^ 64
-    amount-fits = omega (arith, amount-is, segmentAmount-size N (read-sized N (a .read)) e)
+    amount-fits = omega (arith, amount-is, segmentAmount-size N (read-sized N (a .accepted .read)) e)
 
     -- the entry of a breaker
     pub entry-is : _≡_ {A = List ℕ} (l ∷ side ∷ w ∷ c ∷ w * c ∷ []) (entryOf N e)

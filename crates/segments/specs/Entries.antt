@@ -7,7 +7,9 @@ use lib.ListN.{getD}
 use Rattle.model.specs.Network.{Network}
 use Rattle.model.specs.Paths.{End, end1, end2, isBreaker}
 use Rattle.model.specs.Segments.{weightTripped, segment}
+use Rattle.theory.specs.Best.{Accepted}
 use Rattle.tree.specs.Linked.{endCode}
+use Rattle.outage.specs.Held.{HoldsCustomers}
 
 -- the weights of the lines that each breaker trips for, by the end's code
 abbrev pub HoldsWeights : Network → List ℕ → Type 0
@@ -19,3 +21,9 @@ entryOf N e = elim (isBreaker N e) [ true ↦ segment N e | false ↦ [] ]
 
 abbrev pub entriesOf : Network → ℕ → List ℕ
 entriesOf N l = entryOf N (end1 l) ++ entryOf N (end2 l)
+
+-- what the entries are made of: an accepted network, the customers behind each line and the weights of each breaker
+pub record Summed (N : Network) (sums weights : List ℕ) : Type 0 where
+  pub accepted : Accepted N
+  pub behind : HoldsCustomers N sums
+  pub tripped : HoldsWeights N weights

@@ -1,7 +1,7 @@
 // The segment table groups the lines by the breaker that trips for them: an entry a breaker, with the weight of its lines, the
 // customers that it cuts off and their outage amount. An end has a code: 1 and 2 are the ends of line 1, 3 and 4 those of line 2.
 ghost use mathlib.Core.Path.{_≡_};
-ghost use mathlib.Core.List.{_∷_, _++_};
+ghost use mathlib.Core.List.{_∷_};
 ghost use Prim.Native.Nat.{ℕ, _+_, _*_, _-_, _^_, _≤_, _<_};
 ghost use lib.ListN.{length, getD, drop};
 ghost use Rattle.model.specs.Paths.{isBreaker};
@@ -10,7 +10,8 @@ ghost use Rattle.theory.specs.Best.{Accepted};
 ghost use Rattle.buffer.specs.Buffer.{networkIn};
 ghost use Rattle.buffer.specs.Fits.{EndThere, LineThere, endIn};
 ghost use Rattle.outage.specs.Held.{HoldsCustomers, HoldsTrips};
-ghost use Rattle.segments.specs.Entries.{HoldsWeights, entryOf, entriesOf};
+ghost use Rattle.text.specs.Over.{over, Written};
+ghost use Rattle.segments.specs.Entries.{HoldsWeights, Summed, entryOf, entriesOf};
 use amounts::Customers;
 use amounts::Weight;
 
@@ -86,8 +87,10 @@ fn put_end(
     side: usize,
     table: &mut [u64],
 ) -> usize
-    requires { ⌜ Accepted (networkIn (now net)) × HoldsCustomers (networkIn (now net)) (now sums) × HoldsWeights (networkIn (now net)) (now weights) × EndThere (now net) line side × (5 ≤ length (now table)) ⌝ }
-    ensures { λ r. ⌜ (r ≡ length (entryOf (networkIn (now (net .entry))) (endIn line side))) × (now (table .exit) ≡ entryOf (networkIn (now (net .entry))) (endIn line side) ++ drop (length (entryOf (networkIn (now (net .entry))) (endIn line side))) (now (table .entry))) × (r ≤ 5) ⌝ }
+    requires ready { ⌜ Summed (networkIn (now net)) (now sums) (now weights) × EndThere (now net) line side ⌝ }
+    requires room { ⌜ 5 ≤ length (now table) ⌝ }
+    ensures written { λ r. ⌜ Written (entryOf (networkIn (now (net .entry))) (endIn line side)) (now (table .entry)) (now (table .exit)) r ⌝ }
+    ensures short { λ r. ⌜ r ≤ 5 ⌝ }
 {
     if has_entry(net, line, side) {
         let weight = breaker_weight(weights, line, side);
@@ -106,8 +109,10 @@ fn put_ends(
     line: usize,
     table: &mut [u64],
 ) -> usize
-    requires { ⌜ Accepted (networkIn (now net)) × HoldsCustomers (networkIn (now net)) (now sums) × HoldsWeights (networkIn (now net)) (now weights) × LineThere (now net) line × (10 ≤ length (now table)) ⌝ }
-    ensures { λ r. ⌜ (r ≡ length (entriesOf (networkIn (now (net .entry))) line)) × (now (table .exit) ≡ entriesOf (networkIn (now (net .entry))) line ++ drop (length (entriesOf (networkIn (now (net .entry))) line)) (now (table .entry))) × (r ≤ 10) ⌝ }
+    requires ready { ⌜ Summed (networkIn (now net)) (now sums) (now weights) × LineThere (now net) line ⌝ }
+    requires room { ⌜ 10 ≤ length (now table) ⌝ }
+    ensures written { λ r. ⌜ Written (entriesOf (networkIn (now (net .entry))) line) (now (table .entry)) (now (table .exit)) r ⌝ }
+    ensures short { λ r. ⌜ r ≤ 10 ⌝ }
 {
     let at = put_end(net, sums, weights, line, 1, table);
     at + put_end(net, sums, weights, line, 2, &mut table[at..])
@@ -120,8 +125,10 @@ fn put_lines(
     weights: &[u64; 1537],
     table: &mut [u64],
 ) -> usize
-    requires { ⌜ Accepted (networkIn (now net)) × HoldsCustomers (networkIn (now net)) (now sums) × HoldsWeights (networkIn (now net)) (now weights) × (7680 ≤ length (now table)) ⌝ }
-    ensures { λ r. ⌜ (r ≡ length (breakerEnds (networkIn (now (net .entry))))) × (now (table .exit) ≡ segmentTable (networkIn (now (net .entry))) ++ drop (length (segmentTable (networkIn (now (net .entry))))) (now (table .entry))) ⌝ }
+    requires ready { ⌜ Summed (networkIn (now net)) (now sums) (now weights) ⌝ }
+    requires room { ⌜ 7680 ≤ length (now table) ⌝ }
+    ensures count { λ r. ⌜ r ≡ length (breakerEnds (networkIn (now (net .entry)))) ⌝ }
+    ensures written { λ r. ⌜ now (table .exit) ≡ over (segmentTable (networkIn (now (net .entry)))) (now (table .entry)) ⌝ }
 {
     let mut at: usize = 0;
     for line in 1..buffer::line_count(net) + 1 {
@@ -138,8 +145,10 @@ pub fn write_table(
     sums: &[u64; 768],
     table: &mut [u64],
 ) -> usize
-    requires { ⌜ Accepted (networkIn (now net)) × HoldsTrips (networkIn (now net)) (now trips) × HoldsCustomers (networkIn (now net)) (now sums) × (7680 ≤ length (now table)) ⌝ }
-    ensures { λ r. ⌜ (r ≡ length (breakerEnds (networkIn (now (net .entry))))) × (now (table .exit) ≡ segmentTable (networkIn (now (net .entry))) ++ drop (length (segmentTable (networkIn (now (net .entry))))) (now (table .entry))) ⌝ }
+    requires ready { ⌜ Accepted (networkIn (now net)) × HoldsTrips (networkIn (now net)) (now trips) × HoldsCustomers (networkIn (now net)) (now sums) ⌝ }
+    requires room { ⌜ 7680 ≤ length (now table) ⌝ }
+    ensures count { λ r. ⌜ r ≡ length (breakerEnds (networkIn (now (net .entry)))) ⌝ }
+    ensures written { λ r. ⌜ now (table .exit) ≡ over (segmentTable (networkIn (now (net .entry)))) (now (table .entry)) ⌝ }
 {
     let mut weights = [0u64; 1537];
     weights_tripped(net, trips, &mut weights);

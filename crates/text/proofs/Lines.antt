@@ -9,7 +9,8 @@ use lib.Seq.{take-suc, take-all, drop-set-lt}
 use borrow.Rule.Slice.PartMut.{putMid}
 use Rattle.model.specs.Format.{comma, newline}
 use Rattle.model.specs.Text.{decimal, printedLine}
-use Rattle.text.proofs.Over.{over, over-length, over-set, over-part}
+use Rattle.text.specs.Over.{over, Written}
+use Rattle.text.proofs.Over.{over-length, over-set, over-part}
 
 -- a line before its newline
 unfoldable pub lineStart : ℕ → List ℕ → List ℕ
@@ -40,11 +41,10 @@ pub record Begun (letter : ℕ) (ns b w : List ℕ) (at i : ℕ) : Type 0 where
 module _ (letter : ℕ) (ns b : List ℕ) where
   -- a text that begins with the letter covers the letter stored before
   first : (t : List ℕ) → over (letter ∷ t) (set b 0 letter) ≡ over (letter ∷ t) b
-  unfolding over
   first t = ap (λ (l : List ℕ). (letter ∷ t) ++ l) (drop-set-lt (suc (length t)) b 0 letter (omega arith))
 
   pub begin : 2 + 21 * length ns ≤ length b → Begun letter ns (set b 0 letter) (set b 0 letter) 1 0
-  unfolding lineStart flatMap over
+  unfolding lineStart flatMap
   begin h =
       record {
         room = omega (arith, length-set b 0 letter);
@@ -55,7 +55,7 @@ module _ (letter : ℕ) (ns b : List ℕ) where
       }
 
   pub finish : (w : List ℕ) (at i : ℕ) → i ≡ length ns → Begun letter ns (set b 0 letter) w at i
-      → (at + 1 ≡ length (printedLine letter ns)) × (set w at newline ≡ over (printedLine letter ns) b)
+      → Written (printedLine letter ns) b (set w at newline) (at + 1)
   unfolding printedLine
   finish w at i h g =
       let s : List ℕ = lineStart letter (take i ns) in (
@@ -75,7 +75,7 @@ one-more letter ns b w v at i n d h g stored en few e =
     let more = start-more letter ns i h in
     let here1 : at + 1 ≡ length t = omega (arith, g .here, length-append (lineStart letter (take i ns)) (comma ∷ [])) in
     let here2 : at + 1 + n ≡ length (lineStart letter (take (i + 1) ns)) = omega (arith, here1, length-append t (decimal (getD ns i 0)), ap length more) in
-    let is1 = stored ∙ over-set _ b w at (g .is) (g .here) comma (omega arith) in
+    let is1 = stored ∙ over-set (lineStart letter (take i ns)) b w at (g .is) (g .here) comma (omega arith) in
     let is2 = over-part t b v (at + 1) is1 here1 (decimal (getD ns i 0)) d e ∙ ap (λ (l : List ℕ). over l b) more in
-    let long2 = over-length _ b _ (at + 1 + n) is2 here2 (omega arith) in
+    let long2 = over-length (lineStart letter (take (i + 1) ns)) b _ (at + 1 + n) is2 here2 (omega arith) in
     record { room = omega arith; long = long2; low = omega arith; here = here2; is = is2 }

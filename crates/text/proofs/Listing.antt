@@ -11,17 +11,18 @@ use Rattle.model.specs.Lists.{numbers}
 use Rattle.model.specs.Network.{Network}
 use Rattle.model.specs.Paths.{lineNumbers}
 use Rattle.theory.specs.Sizes.{numbers-length}
-use Rattle.text.proofs.Over.{over, over-length, over-part}
+use Rattle.text.specs.Over.{over, Written}
+use Rattle.text.proofs.Over.{over-length, over-part}
 use Rattle.text.proofs.Lines.{flatMap-append}
 
--- a text over the start of a list is an equal text over it
-pub same-text : (s t b d : List ℕ) (n : ℕ) → s ≡ t → n ≡ length s → d ≡ s ++ drop (length s) b → (n ≡ length t) × (d ≡ t ++ drop (length t) b)
-same-text s t b d n e p q = (p ∙ ap length e, q ∙ ap (λ (l : List ℕ). l ++ drop (length l) b) e)
+-- where a text is written, so is an equal text
+pub same-text : (s t b d : List ℕ) (n : ℕ) → s ≡ t → Written s b d n → Written t b d n
+same-text s t b d n e p = (p .0 ∙ ap length e, p .1 ∙ ap (λ (l : List ℕ). over l b) e)
 
 -- a text behind another
-pub behind : (s t b w d : List ℕ) (q n : ℕ) → (q ≡ length s) × (w ≡ over s b) → n ≡ length t → d ≡ over t (take (length w - q) (drop q w))
-    → (q + n ≡ length (s ++ t)) × (putMid q (length w - q) w d ≡ over (s ++ t) b)
-behind s t b w d q n g en e = (omega (arith, g .0, length-append s t), over-part s b w q (g .1) (g .0) t d e)
+pub behind : (s t b w d : List ℕ) (q n : ℕ) → Written s b w q → Written t (take (length w - q) (drop q w)) d n
+    → Written (s ++ t) b (putMid q (length w - q) w d) (q + n)
+behind s t b w d q n p r = (omega (arith, p .0, r .0, length-append s t), over-part s b w q (p .1) (p .0) t d (r .1))
 
 -- w is the list b with the texts of the first i elements, `at` bytes, over its start
 pub record Listed (f : ℕ → List ℕ) (xs b w : List ℕ) (at i : ℕ) : Type 0 where
@@ -34,7 +35,7 @@ listed-at {f} {xs} {b} {w} {at} e g = subst (Listed f xs b w at) e g
 
 module _ (f : ℕ → List ℕ) (xs b : List ℕ) where
   pub listed-none : Listed f xs b b 0 0
-  unfolding over flatMap
+  unfolding flatMap
   listed-none = record { long = refl; here = refl; is = refl }
 
   text-more : (i : ℕ) → i < length xs → flatMap f (take i xs) ++ f (getD xs i 0) ≡ flatMap f (take (i + 1) xs)
@@ -43,16 +44,16 @@ module _ (f : ℕ → List ℕ) (xs b : List ℕ) where
 
   -- the text of one element more, over the start of the part behind the others
   pub listed-more : (w d : List ℕ) (at i x n : ℕ) → i < length xs → x ≡ getD xs i 0 → at + n ≤ length b → Listed f xs b w at i
-      → n ≡ length (f x) → d ≡ over (f x) (take (length w - at) (drop at w))
+      → Written (f x) (take (length w - at) (drop at w)) d n
       → Listed f xs b (putMid at (length w - at) w d) (at + n) (i + 1)
-  listed-more w d at i x n h ex room g en e =
+  listed-more w d at i x n h ex room g p =
       let s : List ℕ = flatMap f (take i xs) in
       let more : s ++ f x ≡ flatMap f (take (i + 1) xs) = ap (λ (k : ℕ). s ++ f k) ex ∙ text-more i h in
-      let here2 : at + n ≡ length (flatMap f (take (i + 1) xs)) = omega (arith, g .here, length-append s (f x), ap length more) in
-      let is2 = over-part s b w at (g .is) (g .here) (f x) d e ∙ ap (λ (l : List ℕ). over l b) more in
-      record { long = over-length _ b _ (at + n) is2 here2 room; here = here2; is = is2 }
+      let here2 : at + n ≡ length (flatMap f (take (i + 1) xs)) = omega (arith, g .here, p .0, length-append s (f x), ap length more) in
+      let is2 = over-part s b w at (g .is) (g .here) (f x) d (p .1) ∙ ap (λ (l : List ℕ). over l b) more in
+      record { long = over-length (flatMap f (take (i + 1) xs)) b _ (at + n) is2 here2 room; here = here2; is = is2 }
 
-  pub listed-all : (w : List ℕ) (at i : ℕ) → length xs ≤ i → Listed f xs b w at i → (at ≡ length (flatMap f xs)) × (w ≡ over (flatMap f xs) b)
+  pub listed-all : (w : List ℕ) (at i : ℕ) → length xs ≤ i → Listed f xs b w at i → Written (flatMap f xs) b w at
   listed-all w at i h g =
       let e : take i xs ≡ xs = take-all i xs h in
       (g .here ∙ ap (λ (l : List ℕ). length (flatMap f l)) e, g .is ∙ ap (λ (l : List ℕ). over (flatMap f l) b) e)

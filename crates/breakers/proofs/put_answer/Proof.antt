@@ -19,7 +19,7 @@ returns-2 c =
     let g = c .before .before .before .before .before .before .number .given in
     let p = c .before .before .put-line in
     refusal-printed (a .file .now) (a .out .now) (c .before .before .before .before .before .before .before .before .before .before .before .before .before .before .pre) (g .0 .0) (g .0 .1 .0) (p .result) _ _
-    (subst (λ r. reportSays r ≡ reportAnswered (a .file .now) (a .out .now)) (g .1) (d .report .ensures .0)) (p .ensures .0) (p .ensures .1)
+    (subst (λ r. reportSays r ≡ reportAnswered (a .file .now) (a .out .now)) (g .1) (d .report .ensures .0)) (p .ensures .0)
 
 pub put-answer-spec : {M : Type 1} → statement M
 put-answer-spec =

@@ -15,7 +15,7 @@ outage-amount-requires c κs =
     let s = c .before .before in
     let N = networkIn (s .args .net .now) in
     let l = s .args .line in
-    (record { fits = read-fits N (s .pre .0 .read); low = s .pre .2; high = s .pre .3 }, read-sized N (s .pre .0 .read), s .pre .1 l (s .pre .2) (s .pre .3))
+    (record { fits = read-fits N (s .pre .0 .0 .read); low = s .pre .1 .0 .0; high = s .pre .1 .0 .1 }, read-sized N (s .pre .0 .0 .read), s .pre .0 .1 l (search needs) (search needs))
 
 returns : tie.Need-returns
 returns c =
@@ -25,8 +25,8 @@ returns c =
     let N = networkIn (s .args .net .now) in
     let l = s .args .line in
     let p = c .before .before .put-line in
-    let t = same-text _ _ _ _ _ (lineF-is N l _ (n .number .result) (s .pre .1 l (s .pre .2) (s .pre .3)) (n .number .ensures ∙ a .outage-amount .ensures)) (p .ensures .0) (p .ensures .1) in
-    (t .0, t .1, omega (arith, t .0, lineF-length N (s .pre .0) l (omega (arith, read-sized N (s .pre .0 .read) .lineCount))))
+    let t = same-text _ _ _ _ _ (lineF-is N l _ (n .number .result) (s .pre .0 .1 l (search needs) (search needs)) (n .number .ensures ∙ a .outage-amount .ensures)) (p .ensures .0) in
+    (t, omega (arith, t .0, lineF-length N (s .pre .0 .0) l (omega (arith, read-sized N (s .pre .0 .0 .read) .lineCount))))
 
 pub put-fault-spec : {M : Type 1} → statement M
 put-fault-spec =

@@ -11,8 +11,7 @@ returns c =
     let s = c .before .before .before .before .before .before .before .before in
     let N = networkIn (s .args .net .now) in
     let p = c .before .before .put-line in
-    let t = same-text _ _ _ _ _ (lineB-is N (s .args .place) _ _ (c .before .before .before .before .before .before .place-line .ensures) (c .before .before .before .before .before .place-side .ensures)) (p .ensures .0) (p .ensures .1) in
-    (t .0, t .1, omega arith)
+    (same-text _ _ _ _ _ (lineB-is N (s .args .place) _ _ (c .before .before .before .before .before .before .place-line .ensures) (c .before .before .before .before .before .place-side .ensures)) (p .ensures .0), omega arith)
 
 pub put-member-spec : {M : Type 1} → statement M
 put-member-spec =

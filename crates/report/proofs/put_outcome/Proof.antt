@@ -8,8 +8,7 @@ use Rattle.report.proofs.put_outcome.Tie as tie
 returns : tie.Need-returns
 returns c =
     let p = c .before .before .put-line in
-    let t = same-text _ _ _ _ _ (outcome-is _ _ _ _ _ (c .before .before .before .before .finished-number .ensures)) (p .ensures .0) (p .ensures .1) in
-    (t .0, t .1, omega arith)
+    (same-text _ _ _ _ _ (outcome-is _ _ _ _ _ (c .before .before .before .before .finished-number .ensures)) (p .ensures .0), omega arith)
 
 pub put-outcome-spec : {M : Type 1} → statement M
 put-outcome-spec =

@@ -11,8 +11,7 @@ returns c =
     let s = c .before .before .before .before .before .before in
     let N = networkIn (s .args .net .now) in
     let p = c .before .before .put-line in
-    let t = same-text _ _ _ _ _ (lineA-is N (s .args .total) (s .args .figure) (s .pre .0) (s .pre .1)) (p .ensures .0) (p .ensures .1) in
-    (t .0, t .1, omega arith)
+    (same-text _ _ _ _ _ (lineA-is N (s .args .total) (s .args .figure) (s .pre .0 .0) (s .pre .0 .1)) (p .ensures .0), omega arith)
 
 pub put-totals-spec : {M : Type 1} → statement M
 put-totals-spec =

@@ -12,22 +12,20 @@ put-entry-requires : tie.Need-put-entry-requires
 put-entry-requires c κs =
     let s = c .before .before .before .before .before .before in
     let g = s .args in
-    (s .pre .4, amount-fits (networkIn (g .net .now)) (g .line) (g .side) (s .pre .0) (g .sums .now) (g .weights .now) (s .pre .1) (s .pre .2) (s .pre .3 .line .low) (s .pre .3 .line .high) (sym (c .before .before .before .before .has-entry .ensures) ∙ c .before .before .before .if1 .taken) _ _ (c .before .before .breaker-weight .ensures) (c .before .line-customers .ensures))
+    (s .pre .1, amount-fits (networkIn (g .net .now)) (g .line) (g .side) (g .sums .now) (g .weights .now) (s .pre .0 .0) (s .pre .0 .1 .line .low) (s .pre .0 .1 .line .high) (sym (c .before .before .before .before .has-entry .ensures) ∙ c .before .before .before .if1 .taken) _ _ (c .before .before .breaker-weight .ensures) (c .before .line-customers .ensures))
 
 returns : tie.Need-returns
 returns c =
     let s = c .before .before .before .before .before .before .before .before .before in
     let g = s .args in
-    let i = entry-is (networkIn (g .net .now)) (g .line) (g .side) (s .pre .0) (g .sums .now) (g .weights .now) (s .pre .1) (s .pre .2) (s .pre .3 .line .low) (s .pre .3 .line .high) (sym (c .before .before .before .before .before .before .before .has-entry .ensures) ∙ c .before .before .before .before .before .before .if1 .taken) _ _ (c .before .before .before .before .before .breaker-weight .ensures) (c .before .before .before .before .line-customers .ensures) in
-    let t = same-text _ _ (g .table .now) _ 5 i refl (c .before .before .put-entry .ensures) in
-    (t .0, t .1, omega arith)
+    let i = entry-is (networkIn (g .net .now)) (g .line) (g .side) (g .sums .now) (g .weights .now) (s .pre .0 .0) (s .pre .0 .1 .line .low) (s .pre .0 .1 .line .high) (sym (c .before .before .before .before .before .before .before .has-entry .ensures) ∙ c .before .before .before .before .before .before .if1 .taken) _ _ (c .before .before .before .before .before .breaker-weight .ensures) (c .before .before .before .before .line-customers .ensures) in
+    (same-text _ _ (g .table .now) _ 5 i (refl, c .before .before .put-entry .ensures), omega arith)
 
 returns-2 : tie.Need-returns-2
 returns-2 c =
     let s = c .before .before .before in
     let g = s .args in
-    let t = same-text [] _ (g .table .now) (g .table .now) 0 (sym (entry-none (networkIn (g .net .now)) (g .line) (g .side) (sym (c .before .has-entry .ensures) ∙ c .if1 .left))) refl refl in
-    (t .0, t .1, omega arith)
+    (same-text [] _ (g .table .now) (g .table .now) 0 (sym (entry-none (networkIn (g .net .now)) (g .line) (g .side) (sym (c .before .has-entry .ensures) ∙ c .if1 .left))) (refl, refl), omega arith)
 
 pub put-end-spec : {M : Type 1} → statement M
 put-end-spec =

@@ -7,7 +7,7 @@ use Rattle.model.specs.Paths.{lineNumbers}
 use Rattle.theory.specs.Sizes.{read-sized}
 use Rattle.buffer.specs.Buffer.{networkIn}
 use Rattle.outage.proofs.Calls.{read-fits}
-use Rattle.text.proofs.Over.{over}
+use Rattle.text.specs.Over.{over}
 use Rattle.text.proofs.Listing.{Listed, listed-at, listed-none, listed-more, listed-all, lines-length, line-is}
 use Rattle.segments.specs.Entries.{entriesOf}
 use Rattle.segments.proofs.Table.{table-lines, table-length}
@@ -23,7 +23,7 @@ abbrev μ-loop : tie.MeasureT-loop
 μ-loop net sums weights table₀ at₀ line₀ line-end table at line = line-end - line
 
 add-line-end : tie.Need-add-line-end Inv-loop μ-loop
-add-line-end c = let s = c .before .before in omega (arith, read-sized (networkIn (s .args .net .now)) (s .pre .0 .read) .lineCount)
+add-line-end c = let s = c .before .before in omega (arith, read-sized (networkIn (s .args .net .now)) (s .pre .0 .accepted .read) .lineCount)
 
 loop-holds : tie.Need-loop-holds Inv-loop μ-loop
 loop-holds c = (omega arith, omega arith, omega arith, omega arith, listed-none _ _ _)
@@ -32,22 +32,20 @@ put-ends-requires : tie.Need-put-ends-requires Inv-loop μ-loop
 put-ends-requires c κs =
     let s = c .before .before .before .before .before in
     let N = networkIn (s .args .net .now) in
-    (s .pre .0, s .pre .1, s .pre .2, record { fits = read-fits N (s .pre .0 .read); low = omega arith; high = omega arith }, simp (length-take, length-drop) (omega (arith, read-sized _ (s .pre .0 .read) .lineCount)))
+    ((s .pre .0, record { fits = read-fits N (s .pre .0 .accepted .read); low = omega arith; high = omega arith }), simp (length-take, length-drop) (omega (arith, read-sized _ (s .pre .0 .accepted .read) .lineCount)))
 
 loop-again : tie.Need-loop-again Inv-loop μ-loop
-unfolding over
 loop-again c =
     let s = c .before .before .before .before .before .before .before .before in
     let N = networkIn (s .args .net .now) in
     let g = c .before .before .before .before .before .loop in
     let p = c .before .before .put-ends in
-    (g .inv .0, omega arith, omega arith, omega arith, listed-at (omega arith) (listed-more (λ l. entriesOf N l) (lineNumbers N) (s .args .table .now) (g .table) _ (g .at) (g .line - 1) (g .line) (p .result) (omega (arith, lines-length N)) (omega (arith, line-is N (g .line - 1) (omega arith))) (omega (arith, read-sized N (s .pre .0 .read) .lineCount)) (g .inv .4) (p .ensures .0) (p .ensures .1)))
+    (g .inv .0, omega arith, omega arith, omega arith, listed-at (omega arith) (listed-more (λ l. entriesOf N l) (lineNumbers N) (s .args .table .now) (g .table) _ (g .at) (g .line - 1) (g .line) (p .result) (omega (arith, lines-length N)) (omega (arith, line-is N (g .line - 1) (omega arith))) (omega (arith, read-sized N (s .pre .0 .accepted .read) .lineCount)) (g .inv .4) (p .ensures .0)))
 
 same-length : tie.Need-same-length Inv-loop μ-loop
 same-length c = c .before .loop .inv .4 .long
 
 returns : tie.Need-returns Inv-loop μ-loop
-unfolding over
 returns c =
     let s = c .before .before .before .before in
     let N = networkIn (s .args .net .now) in

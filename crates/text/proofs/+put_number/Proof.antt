@@ -9,7 +9,8 @@ use borrow.Fn.PlainCycle.{Measures, is, falls, and}
 use Rattle.model.specs.Text.{decimal}
 use Rattle.theory.specs.TextSizes.{decimal-length}
 use Rattle.text.proofs.Decimals.{decimal-short, decimal-step, decimal-step-length}
-use Rattle.text.proofs.Over.{over, over-set}
+use Rattle.text.specs.Over.{over}
+use Rattle.text.proofs.Over.{over-set}
 use Rattle.text.proofs.put_number.Reads as put-number
 use Rattle.text.proofs.put_number.Kinds as put-number-kinds
 use Rattle.text.proofs.+put_number.Lts-put_number as put-number-lts
@@ -19,7 +20,6 @@ use Rattle.text.proofs.+put_number.Tie.{close}
 
 -- a number of one digit
 only : (b : List ℕ) (n : ℕ) → n < 10 → 1 ≤ length b → set b 0 (48 + n) ≡ over (decimal n) b
-unfolding over
 only b n k h = over-set [] b b 0 refl refl (48 + n) h ∙ ap (λ (ds : List ℕ). over ds b) (sym (decimal-short n k))
 
 -- the last of several digits: its place is below 20
@@ -40,30 +40,6 @@ abbrev put-number-below : ℕ → In 1 put-number-kinds.ps
 put-number-below t =
     and 1 put-number-kinds.ps (falls 1 put-number-kinds.ps _<_ μ-put-number t) put-number.Pre
 
-put-number-cast-put-byte : (t : ℕ) → put-number-lts.Need-cast-put-byte (
-  put-byte-reads.Asked,
-  put-byte-reads.Learnt,
-  put-number-below t,
-  put-number.Post,
-) (put-number-at t) put-number.Post
-put-number-cast-put-byte t c = omega arith
-
-put-number-add-put-byte : (t : ℕ) → put-number-lts.Need-add-put-byte (
-  put-byte-reads.Asked,
-  put-byte-reads.Learnt,
-  put-number-below t,
-  put-number.Post,
-) (put-number-at t) put-number.Post
-put-number-add-put-byte t c = omega arith
-
-put-number-put-byte-requires : (t : ℕ) → put-number-lts.Need-put-byte-requires (
-  put-byte-reads.Asked,
-  put-byte-reads.Learnt,
-  put-number-below t,
-  put-number.Post,
-) (put-number-at t) put-number.Post
-put-number-put-byte-requires t c κs = search needs
-
 put-number-put-number-requires : (t : ℕ) → put-number-lts.Need-put-number-requires (
   put-byte-reads.Asked,
   put-byte-reads.Learnt,
@@ -72,45 +48,13 @@ put-number-put-number-requires : (t : ℕ) → put-number-lts.Need-put-number-re
 ) (put-number-at t) put-number.Post
 put-number-put-number-requires t c κs = (omega arith, search needs)
 
-put-number-cast-put-byte-2 : (t : ℕ) → put-number-lts.Need-cast-put-byte-2 (
-  put-byte-reads.Asked,
-  put-byte-reads.Learnt,
-  put-number-below t,
-  put-number.Post,
-) (put-number-at t) put-number.Post
-put-number-cast-put-byte-2 t c = omega arith
-
-put-number-add-put-byte-2 : (t : ℕ) → put-number-lts.Need-add-put-byte-2 (
-  put-byte-reads.Asked,
-  put-byte-reads.Learnt,
-  put-number-below t,
-  put-number.Post,
-) (put-number-at t) put-number.Post
-put-number-add-put-byte-2 t c = omega arith
-
 put-number-put-byte-requires-2 : (t : ℕ) → put-number-lts.Need-put-byte-requires-2 (
   put-byte-reads.Asked,
   put-byte-reads.Learnt,
   put-number-below t,
   put-number.Post,
 ) (put-number-at t) put-number.Post
-put-number-put-byte-requires-2 t c κs = omega (arith, place (c .before .before .before .before .before .before .before .args .n) _ (search needs) (search needs) (c .before .before .before .put-number .ensures .0))
-
-put-number-add-result : (t : ℕ) → put-number-lts.Need-add-result (
-  put-byte-reads.Asked,
-  put-byte-reads.Learnt,
-  put-number-below t,
-  put-number.Post,
-) (put-number-at t) put-number.Post
-put-number-add-result t c = omega arith
-
-put-number-same-length : (t : ℕ) → put-number-lts.Need-same-length (
-  put-byte-reads.Asked,
-  put-byte-reads.Learnt,
-  put-number-below t,
-  put-number.Post,
-) (put-number-at t) put-number.Post
-put-number-same-length t c = search needs
+put-number-put-byte-requires-2 t c κs = omega (arith, place (c .before .before .before .before .before .before .before .args .n) _ (search needs) (search needs) (c .before .before .before .put-number .ensures .0 .0))
 
 put-number-returns : (t : ℕ) → put-number-lts.Need-returns (
   put-byte-reads.Asked,
@@ -118,18 +62,9 @@ put-number-returns : (t : ℕ) → put-number-lts.Need-returns (
   put-number-below t,
   put-number.Post,
 ) (put-number-at t) put-number.Post
-unfolding over
 put-number-returns t c =
     let n = c .before .before .before .before .before .before .args .n in
-    (sym (ap length (decimal-short n (omega arith))), c .before .before .put-byte .ensures ∙ only _ n (search needs) (search needs), omega arith, omega arith)
-
-put-number-same-length-2 : (t : ℕ) → put-number-lts.Need-same-length-2 (
-  put-byte-reads.Asked,
-  put-byte-reads.Learnt,
-  put-number-below t,
-  put-number.Post,
-) (put-number-at t) put-number.Post
-put-number-same-length-2 t c = search needs
+    ((sym (ap length (decimal-short n (omega arith))), c .before .before .put-byte .ensures ∙ only _ n (search needs) (search needs)), search needs)
 
 put-number-returns-2 : (t : ℕ) → put-number-lts.Need-returns-2 (
   put-byte-reads.Asked,
@@ -137,11 +72,10 @@ put-number-returns-2 : (t : ℕ) → put-number-lts.Need-returns-2 (
   put-number-below t,
   put-number.Post,
 ) (put-number-at t) put-number.Post
-unfolding over
 put-number-returns-2 t c =
     let e = c .before .before .before .before .before .before .put-number .ensures in
-    let p = place (c .before .before .before .before .before .before .before .before .before .before .args .n) _ (search needs) (search needs) (e .0) in
-    (p .0, c .before .before .put-byte2 .ensures ∙ last _ _ _ _ (search needs) (search needs) (e .0) (e .1), omega arith, omega arith)
+    let p = place (c .before .before .before .before .before .before .before .before .before .before .args .n) _ (search needs) (search needs) (e .0 .0) in
+    ((p .0, c .before .before .put-byte2 .ensures ∙ last _ _ _ _ (search needs) (search needs) (e .0 .0) (e .0 .1)), search needs)
 
 pub +put-number-spec : {M : Type 1} → statement M
 +put-number-spec = close μ-put-number λ t. put-number-lts.spec (
@@ -152,15 +86,15 @@ pub +put-number-spec : {M : Type 1} → statement M
 )
     (put-number-at t)
     put-number.Post
-    (put-number-cast-put-byte t)
-    (put-number-add-put-byte t)
-    (put-number-put-byte-requires t)
+    (search needs)
+    (search needs)
+    (search needs)
     (put-number-put-number-requires t)
-    (put-number-cast-put-byte-2 t)
-    (put-number-add-put-byte-2 t)
+    (search needs)
+    (search needs)
     (put-number-put-byte-requires-2 t)
-    (put-number-add-result t)
-    (put-number-same-length t)
+    (search needs)
+    (search needs)
     (put-number-returns t)
-    (put-number-same-length-2 t)
+    (search needs)
     (put-number-returns-2 t)

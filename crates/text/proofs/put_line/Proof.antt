@@ -5,7 +5,6 @@ use Prim.Native.Nat.{ℕ, _-_, _≤_}
 use native.Mathlib.Omega.{arith}
 use lib.ListN.{length}
 use Rattle.text.proofs.Lines.{Begun, begin, one-more, finish}
-use Rattle.text.proofs.Over.{over}
 use Rattle.text.proofs.put_line.Statement.{statement}
 use Rattle.text.proofs.put_line.Tie as tie
 
@@ -23,19 +22,17 @@ loop-holds c =
     (refl, omega arith, begun)
 
 loop-again : tie.Need-loop-again Inv-loop μ-loop
-unfolding over
 loop-again c =
     let e = c .before .before .put-number .ensures in
-    (refl, omega arith, one-more _ _ _ _ _ _ _ _ _ (omega arith) (c .before .before .before .before .before .before .before .before .before .before .loop .inv .2) (c .before .before .before .before .before .before .before .put-byte2 .ensures) (e .0) (e .3) (e .1))
+    (refl, omega arith, one-more _ _ _ _ _ _ _ _ _ (omega arith) (c .before .before .before .before .before .before .before .before .before .before .loop .inv .2) (c .before .before .before .before .before .before .before .put-byte2 .ensures) (e .0 .0) (e .1 .1) (e .0 .1))
 
 returns : tie.Need-returns Inv-loop μ-loop
-unfolding over
 returns c =
     let a = c .before .before .before .before .before .before .before .before .before .before .before .before .args in
     let l = c .before .before .before .before .before .loop in
     let begun = subst (λ (b : List ℕ). Begun (a .letter) (a .numbers .now) b (l .buf) (l .at) (l .i)) (c .before .before .before .before .before .before .before .before .put-byte .ensures) (l .inv .2) in
     let f = finish (a .letter) (a .numbers .now) (a .buf .now) _ _ _ (search needs) begun in
-    (f .0, c .before .before .put-byte3 .ensures ∙ f .1, omega arith)
+    ((f .0, c .before .before .put-byte3 .ensures ∙ f .1), omega arith)
 
 pub put-line-spec : {M : Type 1} → statement M
 put-line-spec =
