@@ -75,3 +75,8 @@ pub record Entered (N : Network) (lists S : List ℕ) (size last : ℕ) (outlook
   pub own : Outlook N S (last + 1) outlook'
   pub changed : Changed lists last (size * 195) 1 (many lists last + 1) outlook outlook' saved'
   pub below : SameUpTo (size * 195) saved saved'
+
+-- the outlook becomes the set's own: nothing changes where `pending` is 0, and otherwise the set is entered
+abbrev pub OwnNow : Network → List ℕ → List ℕ → ℕ → ℕ → List ℕ → List ℕ → List ℕ → List ℕ → Type 0
+OwnNow N lists S size pending outlook outlook' saved saved' =
+    ((pending ≡ 0) × (outlook' ≡ outlook) × (saved' ≡ saved)) ⊎ ((pending ≡ 0 → ⊥) × Entered N lists S size pending outlook outlook' saved saved')

@@ -4,7 +4,6 @@
 // Where a function takes `pending`, that is the set's last member if the outlook is still without it, and 0 if the outlook is the
 // set's own.
 ghost use mathlib.Core.Path.{_≡_};
-ghost use mathlib.Core.Logic.{_⊎_};
 ghost use mathlib.Core.List.{[], _∷_, _++_, map};
 ghost use Prim.Native.Nat.{_+_, _*_, _≤_};
 ghost use lib.ListN.{length, take};
@@ -18,7 +17,7 @@ ghost use Rattle.paths.specs.Held.{HoldsEnds};
 ghost use Rattle.starts.specs.Outlook.{Outlook};
 ghost use Rattle.relations.specs.Lists.{many, Row};
 ghost use Rattle.prospects.specs.Changes.{Put, Keeping, Undone};
-ghost use Rattle.prospects.specs.Chosen.{Later, Entering, Entered, Tables};
+ghost use Rattle.prospects.specs.Chosen.{Later, Entering, Entered, OwnNow, Tables};
 use amounts::Customers;
 use amounts::Total;
 use amounts::Weight;
@@ -34,7 +33,8 @@ fn upstream_of(
     pending: usize,
     place: usize,
 ) -> u64
-    requires { ⌜ Later (networkIn (now net)) (now relations) (now outlook) (take size (now set)) pending place × HoldsEnds (networkIn (now net)) (now ends) ⌝ }
+    requires later { ⌜ Later (networkIn (now net)) (now relations) (now outlook) (take size (now set)) pending place ⌝ }
+    requires coded { ⌜ HoldsEnds (networkIn (now net)) (now ends) ⌝ }
     ensures { λ r. ⌜ r ≡ endCode (upstreamAt (networkIn (now (net .entry))) (take size (now (set .entry))) (endAt (networkIn (now (net .entry))) place)) ⌝ }
 {
     let upstream = outlook[place];
@@ -125,7 +125,8 @@ fn enter(
     last: usize,
 )
     requires { ⌜ Entering (networkIn (now net)) (now relations) (now ends) (now lists) (now outlook) (now saved) (take size (now set)) size last ⌝ }
-    ensures { λ r. ⌜ Entered (networkIn (now (net .entry))) (now (lists .entry)) (take size (now (set .entry))) size last (now (outlook .entry)) (now (outlook .exit)) (now (saved .entry)) (now (saved .exit)) ⌝ }
+    ensures { λ r. ⌜ Entered (networkIn (now (net .entry))) (now (lists .entry)) (take size (now (set .entry))) size last
+        (now (outlook .entry)) (now (outlook .exit)) (now (saved .entry)) (now (saved .exit)) ⌝ }
 {
     let start = size * 195;
     let row = last * 65;
@@ -151,8 +152,10 @@ pub fn enter_once(
     size: usize,
     pending: usize,
 )
-    requires { ⌜ ((pending ≡ 0 → ⊥) → Entering (networkIn (now net)) (now relations) (now ends) (now lists) (now outlook) (now saved) (take size (now set)) size pending) ⌝ }
-    ensures { λ r. ⌜ ((pending ≡ 0) × (now (outlook .exit) ≡ now (outlook .entry)) × (now (saved .exit) ≡ now (saved .entry))) ⊎ ((pending ≡ 0 → ⊥) × Entered (networkIn (now (net .entry))) (now (lists .entry)) (take size (now (set .entry))) size pending (now (outlook .entry)) (now (outlook .exit)) (now (saved .entry)) (now (saved .exit))) ⌝ }
+    requires { ⌜ ((pending ≡ 0 → ⊥)
+        → Entering (networkIn (now net)) (now relations) (now ends) (now lists) (now outlook) (now saved) (take size (now set)) size pending) ⌝ }
+    ensures { λ r. ⌜ OwnNow (networkIn (now (net .entry))) (now (lists .entry)) (take size (now (set .entry))) size pending
+        (now (outlook .entry)) (now (outlook .exit)) (now (saved .entry)) (now (saved .exit)) ⌝ }
 {
     if pending != 0 {
         enter(
@@ -178,7 +181,8 @@ pub fn leave(
     last: usize,
 )
     requires { ⌜ (length (now outlook) ≡ 195) × (size ≤ 15) × Row (now lists) last (many (now lists) last) 65 ⌝ }
-    ensures { λ r. ⌜ Undone (now (lists .entry)) last (size * 195) (many (now (lists .entry)) last + 1) (now (saved .entry)) (now (outlook .entry)) (now (outlook .exit)) ⌝ }
+    ensures { λ r. ⌜ Undone (now (lists .entry)) last (size * 195) (many (now (lists .entry)) last + 1)
+        (now (saved .entry)) (now (outlook .entry)) (now (outlook .exit)) ⌝ }
 {
     let start = size * 195;
     let row = last * 65;
@@ -206,8 +210,10 @@ pub fn fall(
     pending: usize,
     place: usize,
 ) -> Total
-    requires { ⌜ Later (networkIn (now net)) (now relations) (now outlook) (take size (now set)) pending place × HoldsEnds (networkIn (now net)) (now ends) × HoldsCustomers (networkIn (now net)) (now sums) ⌝ }
-    ensures { λ r. ⌜ r .0 + setTotal (networkIn (now (net .entry))) (take size (now (set .entry)) ++ (place ∷ [])) ≡ setTotal (networkIn (now (net .entry))) (take size (now (set .entry))) ⌝ }
+    requires { ⌜ Later (networkIn (now net)) (now relations) (now outlook) (take size (now set)) pending place
+        × HoldsEnds (networkIn (now net)) (now ends) × HoldsCustomers (networkIn (now net)) (now sums) ⌝ }
+    ensures { λ r. ⌜ r .0 + setTotal (networkIn (now (net .entry))) (take size (now (set .entry)) ++ (place ∷ []))
+        ≡ setTotal (networkIn (now (net .entry))) (take size (now (set .entry))) ⌝ }
 {
     let upstream = upstream_of(net, relations, ends, outlook, set, size, pending, place) as usize;
     let line = buffer::place_line(net, place);
@@ -225,8 +231,12 @@ pub fn savings_of(
     outlook: &[u64; 195],
     savings: &mut [u64; 64],
 )
-    requires { ⌜ Tables (networkIn (now net)) (now relations) (now ends) (now sums) × Outlook (networkIn (now net)) [] 1 (now outlook) × (length (now savings) ≡ 64) ⌝ }
-    ensures { λ r. ⌜ (length (now (savings .exit)) ≡ 64) × (take (length (networkIn (now (net .entry)) .places)) (now (savings .exit)) ≡ map (λ p. saving (networkIn (now (net .entry))) p) (placeNumbers (networkIn (now (net .entry))))) ⌝ }
+    requires tables { ⌜ Tables (networkIn (now net)) (now relations) (now ends) (now sums) ⌝ }
+    requires start { ⌜ Outlook (networkIn (now net)) [] 1 (now outlook) ⌝ }
+    requires room { ⌜ length (now savings) ≡ 64 ⌝ }
+    ensures long { λ r. ⌜ length (now (savings .exit)) ≡ 64 ⌝ }
+    ensures saved { λ r. ⌜ take (length (networkIn (now (net .entry)) .places)) (now (savings .exit))
+        ≡ map (λ p. saving (networkIn (now (net .entry))) p) (placeNumbers (networkIn (now (net .entry)))) ⌝ }
 {
     let none = [0u64; 16];
     for i in 0..buffer::place_count(net) {

@@ -12,21 +12,15 @@ Inv-loop net relations ends sums outlook savings₀ none i₀ i-end savings i = 
 abbrev μ-loop : tie.MeasureT-loop
 μ-loop net relations ends sums outlook savings₀ none i₀ i-end savings i = i-end - i
 
-place-count-requires : tie.Need-place-count-requires Inv-loop μ-loop
-place-count-requires c κs = tt
-
 loop-holds : tie.Need-loop-holds Inv-loop μ-loop
-loop-holds c = saved-none (networkIn (c .before .args .net .now)) (c .place-count .result) (c .before .args .savings .now) (c .before .pre .0 .accepted) (c .place-count .ensures) (c .before .pre .2)
+loop-holds c = saved-none (networkIn (c .before .args .net .now)) (c .place-count .result) (c .before .args .savings .now) (c .before .pre .0 .accepted) (c .place-count .ensures) (c .before .pre .1 .1)
 
 fall-requires : tie.Need-fall-requires Inv-loop μ-loop
 fall-requires c κs =
     let d = c .before .before .before .before in
     let t = d .pre .0 in
     let N = networkIn (d .args .net .now) in
-    (next-later N (c .before .before .loop .inv) (c .before .loop-test .taken) (d .args .relations .now) (d .args .outlook .now) (t .accepted) (t .related) (d .pre .1), t .coded, t .behind)
-
-number-requires : tie.Need-number-requires Inv-loop μ-loop
-number-requires c κs = tt
+    (next-later N (c .before .before .loop .inv) (c .before .loop-test .taken) (d .args .relations .now) (d .args .outlook .now) (t .accepted) (t .related) (d .pre .1 .0), t .coded, t .behind)
 
 loop-again : tie.Need-loop-again Inv-loop μ-loop
 loop-again c =
@@ -42,11 +36,11 @@ savings-of-spec =
     (tie.spec
     Inv-loop
     μ-loop
-    place-count-requires
+    (search needs)
     loop-holds
     (search needs)
     fall-requires
-    number-requires
+    (search needs)
     (search needs)
     (search needs)
     (search needs)
