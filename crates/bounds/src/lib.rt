@@ -10,7 +10,8 @@ ghost use Rattle.bounds.specs.Bounds.{Small, Savings, Column, Bounds, mo
 // Inserts a number into a list in falling order, the first `size` numbers of an array.
 fn insert_falling(list: &mut [u64; 64], size: usize, number: u64)
     requires { ⌜ (length (now list) ≡ 64) × (size < 64) × Falls (take size (now list)) ⌝ }
-    ensures { λ r. ⌜ (length (now (list .exit)) ≡ 64) × (take (size + 1) (now (list .exit)) ≡ insert number (take size (now (list .entry)))) ⌝ }
+    ensures long { λ r. ⌜ length (now (list .exit)) ≡ 64 ⌝ }
+    ensures inserted { λ r. ⌜ take (size + 1) (now (list .exit)) ≡ insert number (take size (now (list .entry))) ⌝ }
 {
     let mut next = number;
     for i in 0..size {
@@ -54,7 +55,8 @@ pub fn fill_bounds(savings: &[u64; 64], count: usize, bounds: &mut [u64; 1105])
 
 // The sum of the `left` largest savings of the places from `from` on.
 pub fn most_saved(net: &buffer::Net, bounds: &[u64; 1105], left: usize, from: usize) -> u64
-    requires { ⌜ HoldsBounds (networkIn (now net)) (now bounds) × (length (networkIn (now net) .places) ≤ 64) × (1 ≤ left) × (left ≤ 16) × (1 ≤ from) × (from ≤ length (networkIn (now net) .places)) ⌝ }
+    requires { ⌜ HoldsBounds (networkIn (now net)) (now bounds) × (length (networkIn (now net) .places) ≤ 64)
+        × (1 ≤ left) × (left ≤ 16) × (1 ≤ from) × (from ≤ length (networkIn (now net) .places)) ⌝ }
     ensures { λ r. ⌜ r ≡ mostSaved (networkIn (now (net .entry))) left from ⌝ }
 {
     bounds[left * 65 + from - 1]
