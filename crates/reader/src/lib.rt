@@ -33,7 +33,8 @@ fn comes_after(before: &[u64; 4], place: &[u64; 4]) -> bool
 // Whether a place may follow `n` places, the last of them `before`: it is not the 65th, comes after `before` and is on a plain end.
 fn well_placed(net: &Net, n: usize, before: &[u64; 4], place: &[u64; 4]) -> bool
     requires { ⌜ EndThere (now net) (value (now place) 0) (value (now place) 1) ⌝ }
-    ensures { λ r. ⌜ r ≡ wellPlaced (networkIn (now (net .entry)) .lines) n (placeOf (now (before .entry))) (placeOf (now (place .entry))) ⌝ }
+    ensures { λ r. ⌜ r ≡ wellPlaced (networkIn (now (net .entry)) .lines) n
+        (placeOf (now (before .entry))) (placeOf (now (place .entry))) ⌝ }
 {
     if 64 <= n {
         return false;
@@ -46,8 +47,10 @@ fn well_placed(net: &Net, n: usize, before: &[u64; 4], place: &[u64; 4]) -> bool
 
 // Reads the places of a file whose head, stations and lines are in the buffer.
 fn read_places(file: &[u8], from: usize, net: &mut Net) -> ReadAnswer
-    requires { ⌜ (from ≤ length (now file)) × (length (networkIn (now net) .stations) ≤ 512) × (length (networkIn (now net) .lines) ≤ 768) ⌝ }
-    ensures { λ r. ⌜ readSays r (now (net .exit)) ≡ withPlacesOf (networkIn (now (net .entry))) (recordsOf (drop from (now (file .entry)))) ⌝ }
+    requires { ⌜ (from ≤ length (now file))
+        × (length (networkIn (now net) .stations) ≤ 512) × (length (networkIn (now net) .lines) ≤ 768) ⌝ }
+    ensures { λ r. ⌜ readSays r (now (net .exit))
+        ≡ withPlacesOf (networkIn (now (net .entry))) (recordsOf (drop from (now (file .entry)))) ⌝ }
 {
     network_changes::keep_places(net, 0);
     let stations = buffer::station_count(net) as u64;
@@ -86,8 +89,9 @@ fn read_places(file: &[u8], from: usize, net: &mut Net) -> ReadAnswer
 // Reads the head of a file into its part of the buffer.
 fn read_head(file: &[u8], net: &mut [u64]) -> Step
     requires { ⌜ length (now net) ≡ size ⌝ }
-    ensures { λ r. ⌜ stepSays (now (file .entry)) r (take headWidth (now (net .exit))) ≡ nextRecord 0 0 1 (kindAt 0) (recordsOf (now (file .entry))) ⌝ }
-    ensures { λ r. ⌜ within (now (file .entry)) r ⌝ }
+    ensures answer { λ r. ⌜ stepSays (now (file .entry)) r (take headWidth (now (net .exit)))
+        ≡ nextRecord 0 0 1 (kindAt 0) (recordsOf (now (file .entry))) ⌝ }
+    ensures position { λ r. ⌜ within (now (file .entry)) r ⌝ }
 {
     records::read_record(file, 0, 0, 1, 0, 0, &mut net[0..buffer::HEAD_WIDTH])
 }
@@ -95,8 +99,10 @@ fn read_head(file: &[u8], net: &mut [u64]) -> Step
 // Reads the stations of a file into their part of the buffer.
 fn read_stations(file: &[u8], from: usize, stations: usize, lines: usize, net: &mut [u64]) -> Step
     requires { ⌜ (from ≤ length (now file)) × (stations ≤ 512) × (length (now net) ≡ size) ⌝ }
-    ensures { λ r. ⌜ stepSays (now (file .entry)) r (recordsIn stationWidth stations (drop stationsAt (now (net .exit)))) ≡ readRecords stations lines 2 (kindAt 1) stations (recordsOf (drop from (now (file .entry)))) ⌝ }
-    ensures { λ r. ⌜ within (now (file .entry)) r × (take stationsAt (now (net .exit)) ≡ take stationsAt (now (net .entry))) ⌝ }
+    ensures answer { λ r. ⌜ stepSays (now (file .entry)) r (recordsIn stationWidth stations (drop stationsAt (now (net .exit))))
+        ≡ readRecords stations lines 2 (kindAt 1) stations (recordsOf (drop from (now (file .entry)))) ⌝ }
+    ensures position { λ r. ⌜ within (now (file .entry)) r ⌝ }
+    ensures before { λ r. ⌜ take stationsAt (now (net .exit)) ≡ take stationsAt (now (net .entry)) ⌝ }
 {
     records::read_records(
         file,
@@ -113,8 +119,10 @@ fn read_stations(file: &[u8], from: usize, stations: usize, lines: usize, net: &
 // Reads the lines of a file into their part of the buffer.
 fn read_lines(file: &[u8], from: usize, stations: usize, lines: usize, net: &mut [u64]) -> Step
     requires { ⌜ (from ≤ length (now file)) × (stations ≤ 512) × (lines ≤ 768) × (length (now net) ≡ size) ⌝ }
-    ensures { λ r. ⌜ stepSays (now (file .entry)) r (recordsIn lineWidth lines (drop linesAt (now (net .exit)))) ≡ readRecords stations lines (2 + stations) (kindAt 2) lines (recordsOf (drop from (now (file .entry)))) ⌝ }
-    ensures { λ r. ⌜ within (now (file .entry)) r × (take linesAt (now (net .exit)) ≡ take linesAt (now (net .entry))) ⌝ }
+    ensures answer { λ r. ⌜ stepSays (now (file .entry)) r (recordsIn lineWidth lines (drop linesAt (now (net .exit))))
+        ≡ readRecords stations lines (2 + stations) (kindAt 2) lines (recordsOf (drop from (now (file .entry)))) ⌝ }
+    ensures position { λ r. ⌜ within (now (file .entry)) r ⌝ }
+    ensures before { λ r. ⌜ take linesAt (now (net .exit)) ≡ take linesAt (now (net .entry)) ⌝ }
 {
     records::read_records(
         file,
@@ -130,8 +138,10 @@ fn read_lines(file: &[u8], from: usize, stations: usize, lines: usize, net: &mut
 
 // Reads the stations, the lines and the places of a file whose head is in the buffer.
 fn read_after_head(file: &[u8], from: usize, net: &mut Net) -> ReadAnswer
-    requires { ⌜ (from ≤ length (now file)) × (length (networkIn (now net) .stations) ≤ 512) × (length (networkIn (now net) .lines) ≤ 768) ⌝ }
-    ensures { λ r. ⌜ readSays r (now (net .exit)) ≡ readAfterHead (networkIn (now (net .entry)) .head) (recordsOf (drop from (now (file .entry)))) ⌝ }
+    requires { ⌜ (from ≤ length (now file))
+        × (length (networkIn (now net) .stations) ≤ 512) × (length (networkIn (now net) .lines) ≤ 768) ⌝ }
+    ensures { λ r. ⌜ readSays r (now (net .exit))
+        ≡ readAfterHead (networkIn (now (net .entry)) .head) (recordsOf (drop from (now (file .entry)))) ⌝ }
 {
     let stations = buffer::station_count(net);
     let lines = buffer::line_count(net);

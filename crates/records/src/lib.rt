@@ -54,8 +54,9 @@ pub fn read_record(
     numbers: &mut [u64],
 ) -> Step
     requires { ⌜ (at ≤ length (now file)) × (kind < 4) × (length (now numbers) ≡ length (getD rows kind [])) ⌝ }
-    ensures { λ r. ⌜ stepSays (now (file .entry)) r (now (numbers .exit)) ≡ nextRecord stations lines i (kindAt kind) (recordsOf (drop at (now (file .entry)))) ⌝ }
-    ensures { λ r. ⌜ forward (now (file .entry)) at r ⌝ }
+    ensures answer { λ r. ⌜ stepSays (now (file .entry)) r (now (numbers .exit))
+        ≡ nextRecord stations lines i (kindAt kind) (recordsOf (drop at (now (file .entry)))) ⌝ }
+    ensures position { λ r. ⌜ forward (now (file .entry)) at r ⌝ }
 {
     let end = fields::part_end(file, at, b'\n');
     if end == file.len() {
@@ -98,9 +99,11 @@ pub fn read_records(
     lines: u64,
     numbers: &mut [u64],
 ) -> Step
-    requires { ⌜ (from ≤ length (now file)) × (kind < 4) × (first + count < 2 ^ 64) × (count * length (getD rows kind []) ≤ length (now numbers)) ⌝ }
-    ensures { λ r. ⌜ stepSays (now (file .entry)) r (recordsIn (length (getD rows kind [])) count (now (numbers .exit))) ≡ readRecords stations lines first (kindAt kind) count (recordsOf (drop from (now (file .entry)))) ⌝ }
-    ensures { λ r. ⌜ within (now (file .entry)) r ⌝ }
+    requires { ⌜ (from ≤ length (now file)) × (kind < 4) × (first + count < 2 ^ 64)
+        × (count * length (getD rows kind []) ≤ length (now numbers)) ⌝ }
+    ensures answer { λ r. ⌜ stepSays (now (file .entry)) r (recordsIn (length (getD rows kind [])) count (now (numbers .exit)))
+        ≡ readRecords stations lines first (kindAt kind) count (recordsOf (drop from (now (file .entry)))) ⌝ }
+    ensures position { λ r. ⌜ within (now (file .entry)) r ⌝ }
 {
     let width = width_of(kind);
     let mut at = from;
