@@ -103,7 +103,8 @@ fn put_member(net: &buffer::Net, place: usize, buf: &mut [u8]) -> usize
 fn put_members(net: &buffer::Net, members: &[u64], count: usize, buf: &mut [u8]) -> usize
     requires places { ⌜ ArePlaces (now net) (now members) count × (length (now members) ≡ 16) × (count ≤ 16) ⌝ }
     requires room { ⌜ 704 ≤ length (now buf) ⌝ }
-    ensures written { λ r. ⌜ Written (memberLines (networkIn (now (net .entry))) (take count (now (members .entry)))) (now (buf .entry)) (now (buf .exit)) r ⌝ }
+    ensures written { λ r. ⌜ Written (memberLines (networkIn (now (net .entry))) (take count (now (members .entry))))
+        (now (buf .entry)) (now (buf .exit)) r ⌝ }
     ensures short { λ r. ⌜ r ≤ 704 ⌝ }
 {
     let mut at: usize = 0;
