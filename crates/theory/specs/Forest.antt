@@ -33,6 +33,11 @@ firstOr-found {A} other test (x ∷ xs) h = go (test x) refl (λ k. firstOr-foun
     go true q ih = (List·Memᴰ·head refl, q)
     go false q ih = let r = ih (or-cases (test x) (any test xs) (λ p. absurd (true≢false (sym p ∙ q))) (λ p. p) h) in (List·Memᴰ·tail (r .0), r .1)
 
+-- two booleans whose disjunction is false are both false
+pub neither : (a b : Bool) → (a || b) ≡ false → (a ≡ false) × (b ≡ false)
+neither true b q = absurd (true≢false q)
+neither false b q = (refl, q)
+
 -- the last element of a list
 last-of : {A : Type 0} (x : A) (xs : List A) → (ys : List A) × (y : A) × (x ∷ xs ≡ ys ++ (y ∷ []))
 last-of x [] = ([], x, refl)
@@ -112,10 +117,6 @@ module _ (N : Network) (d : Read N) (r : Rules N) where
     where
       x : (1 ≤ e .line) × (e .line ≤ length (N .lines)) × ((e ≡ end1 (e .line)) ⊎ (e ≡ end2 (e .line)))
       x = closed-end N e c
-
-      neither : (a b : Bool) → (a || b) ≡ false → (a ≡ false) × (b ≡ false)
-      neither true b q = absurd (true≢false q)
-      neither false b q = (refl, q)
 
       first : (a b : Bool) → b ≡ true → (a && b) ≡ false → a ≡ false
       first true b p q = absurd (true≢false (sym p ∙ q))

@@ -7,7 +7,7 @@ use mathlib.Core.List.{List, [], _∷_, map}
 use native.Mathlib.Omega.{arith}
 use lib.Dec.{leb, ltb, eqb}
 use lib.ListN.{length, length-map, getD}
-use borrow.Author.Tests.{leb-true, ltb-true, eqb-true, eq-eqb}
+use borrow.Author.Tests.{leb-true, ltb-true, eqb-true}
 use Rattle.model.specs.Lists.{numbered}
 use Rattle.model.specs.Answer.{Answer, given, refused, _>>=_}
 use Rattle.model.specs.Format.{Record, closed, unclosed, recordsOf, formOf, afterLetter, fieldsOf, numbersOf, numberOf, withNumber}
@@ -131,7 +131,6 @@ pub record HeadFits (h : Head) : Type 0 where
 pub record StationFits (s : Station) : Type 0 where
   pub role : Within 0 1 (s .role)
   pub customers : Within 0 20000 (s .customers)
-  pub noneAtHV : s .role ≡ 1 → s .customers ≡ 0
 
 pub record LineFits (stations : ℕ) (l : Line) : Type 0 where
   pub weight : Within 0 1000000 (l .weight)
@@ -183,7 +182,6 @@ unfolding rowS stationOf largestOf
 station-fits s l vs f = record {
   role = field-within s l rowS vs f 0 (omega arith);
   customers = record { low = omega arith; high = most (eqb (value vs 0) 1) refl };
-  noneAtHV = λ e. let w = field-within s l rowS vs f 1 (omega arith) in let z : value vs 1 ≤ 0 = rw (eq-eqb (value vs 0) 1 e, largestOf) at (w .high) in omega arith;
 }
   where
     most : (b : Bool) → eqb (value vs 0) 1 ≡ b → value vs 1 ≤ 20000

@@ -18,7 +18,7 @@ use Rattle.savings.specs.Breakers.{Valid, withBreakers-same, withBreakers-break
 use Rattle.theory.specs.Reading.{All, Within, LineFits, PlaceFits, Read}
 use Rattle.theory.specs.Sizes.{renumbered-length}
 use Rattle.theory.specs.Radial.{Rules, numbered-in}
-use Rattle.theory.specs.Forest.{state-high}
+use Rattle.theory.specs.Forest.{neither, state-high}
 
 -- what every element has, every element has when another that has it takes a place
 all-set : {A : Type 0} (P : A → Type 0) (xs : List A) (k : ℕ) (x : A) → All P xs → (k < length xs → P x) → All P (set xs k x)
@@ -85,10 +85,6 @@ module _ (N : Network) (d : Read N) (r : Rules N) (S : List ℕ) (v : Valid N S)
   not-more : (a b : Bool) → (b ≡ true → a ≡ true) → a ≡ false → b ≡ false
   not-more a true h e = absurd (true≢false (sym (h refl) ∙ e))
   not-more a false h e = refl
-
-  neither : (a b : Bool) → (a || b) ≡ false → (a ≡ false) × (b ≡ false)
-  neither true b e = absurd (true≢false e)
-  neither false b e = (refl, e)
 
   plain-at : (e : End) → plainAtHV N e ≡ false → plainAtHV M e ≡ false
   unfolding plainAtHV
