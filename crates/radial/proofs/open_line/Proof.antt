@@ -1,37 +1,29 @@
-use Prim.Native.Nat.{_+_, _-_}
-use mathlib.Core.Path.{_≡_, sym, _∙_}
-use native.Mathlib.Omega.{arith}
-use lib.ListN.{length}
+use Prim.Native.Nat.{_-_}
 use borrow.Author.Needs.{needs}
-use Rattle.model.specs.Paths.{lineNumbers}
 use Rattle.model.specs.Rules.{bothOpen}
 use Rattle.buffer.specs.Buffer.{networkIn}
-use Rattle.radial.specs.First.{Passed, passed-start, passed-next, passed-here, passed-end}
+use Rattle.radial.proofs.Looking.{Looking, looking-start, looking-next, looking-here, looking-end}
 use Rattle.radial.proofs.open_line.Statement.{statement}
 use Rattle.radial.proofs.open_line.Tie as tie
 
 -- No line before this one has both ends open.
 abbrev Inv-loop : tie.InvT-loop
-Inv-loop net line₀ line-end line = (line-end ≡ length (networkIn net .lines) + 1) × Passed (bothOpen (networkIn net)) (length (networkIn net .lines)) line
+Inv-loop net line₀ line-end line = Looking (networkIn net) (bothOpen (networkIn net)) line-end line
 
 abbrev μ-loop : tie.MeasureT-loop
 μ-loop net line₀ line-end line = line-end - line
 
 loop-holds : tie.Need-loop-holds Inv-loop μ-loop
-loop-holds c = (omega arith, passed-start _ _)
+loop-holds c = looking-start _ _ _ (search needs)
 
 returns : tie.Need-returns Inv-loop μ-loop
-unfolding lineNumbers
-returns c = passed-here (c .before .before .before .loop .inv .1) (omega arith) (sym (c .before .both-open .ensures) ∙ c .if1 .taken)
+returns c = looking-here (c .before .before .before .loop .inv) (c .before .both-open .ensures) (search needs) (c .if1 .taken)
 
 loop-again : tie.Need-loop-again Inv-loop μ-loop
-loop-again c =
-    let h = c .before .before .before .loop in
-    (h .inv .0, passed-next (h .inv .1) (omega arith) (sym (c .before .both-open .ensures) ∙ c .if1 .left))
+loop-again c = looking-next (c .before .before .before .loop .inv) (c .before .both-open .ensures) (search needs) (c .if1 .left)
 
 returns-2 : tie.Need-returns-2 Inv-loop μ-loop
-unfolding lineNumbers
-returns-2 c = passed-end (c .before .loop .inv .1) (omega arith)
+returns-2 c = looking-end (c .before .loop .inv) (search needs)
 
 pub open-line-spec : {M : Type 1} → statement M
 open-line-spec =
