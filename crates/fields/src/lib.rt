@@ -15,7 +15,8 @@ pub enum Number {
 // Where the part that starts at `from` ends: at the next separator, or at the end of the bytes.
 pub fn part_end(bytes: &[u8], from: usize, separator: u8) -> usize
     requires { ⌜ from ≤ length (now bytes) ⌝ }
-    ensures { λ r. ⌜ (r ≡ from + upTo separator (drop from (now (bytes .entry)))) × (from ≤ r) × (r ≤ length (now (bytes .entry))) ⌝ }
+    ensures { λ r. ⌜ (r ≡ from + upTo separator (drop from (now (bytes .entry))))
+        × (from ≤ r) × (r ≤ length (now (bytes .entry))) ⌝ }
 {
     let mut i = from;
     while i < bytes.len() {
@@ -81,7 +82,8 @@ pub fn read_number(field: &[u8]) -> Number
 
 // The numbers of a record of a kind: its letter, then as many numbers as `out` has places. Whether the record has this form.
 pub fn read_form(bytes: &[u8], letter: u8, out: &mut [u64]) -> bool
-    ensures { λ r. ⌜ formSays r (now (out .exit)) ≡ afterLetter letter (length (now (out .entry))) (fieldsOf (now (bytes .entry))) ⌝ }
+    ensures { λ r. ⌜ formSays r (now (out .exit))
+        ≡ afterLetter letter (length (now (out .entry))) (fieldsOf (now (bytes .entry))) ⌝ }
 {
     let mut at = field_end(bytes, 0);
     if at != 1 {

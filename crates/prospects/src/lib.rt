@@ -35,7 +35,8 @@ fn upstream_of(
 ) -> u64
     requires later { ⌜ Later (networkIn (now net)) (now relations) (now outlook) (take size (now set)) pending place ⌝ }
     requires coded { ⌜ HoldsEnds (networkIn (now net)) (now ends) ⌝ }
-    ensures { λ r. ⌜ r ≡ endCode (upstreamAt (networkIn (now (net .entry))) (take size (now (set .entry))) (endAt (networkIn (now (net .entry))) place)) ⌝ }
+    ensures { λ r. ⌜ r ≡ endCode (upstreamAt (networkIn (now (net .entry))) (take size (now (set .entry)))
+        (endAt (networkIn (now (net .entry))) place)) ⌝ }
 {
     let upstream = outlook[place];
     if relations[pending * 65 + place] == 1 && upstream == outlook[pending] {
@@ -55,7 +56,8 @@ fn weight_of(
     place: usize,
 ) -> u64
     requires { ⌜ Later (networkIn (now net)) (now relations) (now outlook) (take size (now set)) pending place ⌝ }
-    ensures { λ r. ⌜ r ≡ weightAt (networkIn (now (net .entry))) (take size (now (set .entry))) (endAt (networkIn (now (net .entry))) place) ⌝ }
+    ensures { λ r. ⌜ r ≡ weightAt (networkIn (now (net .entry))) (take size (now (set .entry)))
+        (endAt (networkIn (now (net .entry))) place) ⌝ }
 {
     let weight = outlook[65 + place];
     if relations[pending * 65 + place] == 2 && outlook[place] == outlook[pending] {
@@ -75,7 +77,8 @@ pub fn in_series_of(
     place: usize,
 ) -> u64
     requires { ⌜ Later (networkIn (now net)) (now relations) (now outlook) (take size (now set)) pending place ⌝ }
-    ensures { λ r. ⌜ r ≡ inSeriesAt (networkIn (now (net .entry))) (take size (now (set .entry))) (endAt (networkIn (now (net .entry))) place) ⌝ }
+    ensures { λ r. ⌜ r ≡ inSeriesAt (networkIn (now (net .entry))) (take size (now (set .entry)))
+        (endAt (networkIn (now (net .entry))) place) ⌝ }
 {
     let in_series = outlook[130 + place];
     let relation = relations[pending * 65 + place];
@@ -124,7 +127,8 @@ fn enter(
     size: usize,
     last: usize,
 )
-    requires { ⌜ Entering (networkIn (now net)) (now relations) (now ends) (now lists) (now outlook) (now saved) (take size (now set)) size last ⌝ }
+    requires { ⌜ Entering (networkIn (now net)) (now relations) (now ends) (now lists)
+        (now outlook) (now saved) (take size (now set)) size last ⌝ }
     ensures { λ r. ⌜ Entered (networkIn (now (net .entry))) (now (lists .entry)) (take size (now (set .entry))) size last
         (now (outlook .entry)) (now (outlook .exit)) (now (saved .entry)) (now (saved .exit)) ⌝ }
 {
@@ -153,7 +157,8 @@ pub fn enter_once(
     pending: usize,
 )
     requires { ⌜ ((pending ≡ 0 → ⊥)
-        → Entering (networkIn (now net)) (now relations) (now ends) (now lists) (now outlook) (now saved) (take size (now set)) size pending) ⌝ }
+        → Entering (networkIn (now net)) (now relations) (now ends) (now lists)
+        (now outlook) (now saved) (take size (now set)) size pending) ⌝ }
     ensures { λ r. ⌜ OwnNow (networkIn (now (net .entry))) (now (lists .entry)) (take size (now (set .entry))) size pending
         (now (outlook .entry)) (now (outlook .exit)) (now (saved .entry)) (now (saved .exit)) ⌝ }
 {

@@ -110,7 +110,8 @@ fn rename(labels: &mut [u64; 512], x: u64, y: u64)
 // Whether both ends of a line are closed.
 fn both_closed(net: &buffer::Net, line: usize) -> bool
     requires { ⌜ LineThere (now net) line ⌝ }
-    ensures { λ r. ⌜ r ≡ (not (isOpen (networkIn (now (net .entry))) (end1 line)) && not (isOpen (networkIn (now (net .entry))) (end2 line))) ⌝ }
+    ensures { λ r. ⌜ r ≡ (not (isOpen (networkIn (now (net .entry))) (end1 line))
+        && not (isOpen (networkIn (now (net .entry))) (end2 line))) ⌝ }
 {
     !is_open(net, line, 1) && !is_open(net, line, 2)
 }
@@ -120,7 +121,8 @@ pub fn path_returns(net: &buffer::Net, labels: &mut [u64; 512]) -> bool
     requires { ⌜ Read (networkIn (now net)) ⌝ }
     requires { ⌜ firstOr 0 (bothOpen (networkIn (now net))) (lineNumbers (networkIn (now net))) ≡ 0 ⌝ }
     ensures { λ r. ⌜ r ≡ somePathReturns (networkIn (now (net .entry))) ⌝ }
-    ensures { λ r. ⌜ (r ≡ false → Labelled (networkIn (now (net .entry))) (length (networkIn (now (net .entry)) .lines)) (now (labels .exit))) ⌝ }
+    ensures { λ r. ⌜ (r ≡ false
+        → Labelled (networkIn (now (net .entry))) (length (networkIn (now (net .entry)) .lines)) (now (labels .exit))) ⌝ }
 {
     number(labels);
     for line in 1..buffer::line_count(net) + 1 {
@@ -167,7 +169,8 @@ pub fn hv_joined(net: &buffer::Net, labels: &[u64; 512]) -> bool
 fn hv_labels(net: &buffer::Net, labels: &[u64; 512]) -> [u64; 513]
     requires { ⌜ Read (networkIn (now net)) ⌝ }
     requires { ⌜ Labelled (networkIn (now net)) (length (networkIn (now net) .lines)) (now labels) ⌝ }
-    ensures { λ r. ⌜ Marked (networkIn (now (net .entry))) (now (labels .entry)) (length (networkIn (now (net .entry)) .stations) + 1) r ⌝ }
+    ensures { λ r. ⌜ Marked (networkIn (now (net .entry))) (now (labels .entry))
+        (length (networkIn (now (net .entry)) .stations) + 1) r ⌝ }
 {
     let mut marks = [0u64; 513];
     for station in 1..buffer::station_count(net) + 1 {
@@ -183,7 +186,8 @@ fn hv_labels(net: &buffer::Net, labels: &[u64; 512]) -> [u64; 513]
 pub fn unsupplied(net: &buffer::Net, labels: &[u64; 512]) -> u64
     requires { ⌜ Read (networkIn (now net)) ⌝ }
     requires { ⌜ Labelled (networkIn (now net)) (length (networkIn (now net) .lines)) (now labels) ⌝ }
-    ensures { λ r. ⌜ r ≡ firstOr 0 (λ s. not (isSupplied (networkIn (now (net .entry))) s)) (stationNumbers (networkIn (now (net .entry)))) ⌝ }
+    ensures { λ r. ⌜ r ≡ firstOr 0 (λ s. not (isSupplied (networkIn (now (net .entry))) s))
+        (stationNumbers (networkIn (now (net .entry)))) ⌝ }
 {
     let marks = hv_labels(net, labels);
     let stations = buffer::station_count(net);

@@ -126,7 +126,8 @@ pub fn write_report(
     spent: bool,
     buf: &mut [u8],
 ) -> usize
-    requires { ⌜ Answered (networkIn (now net)) (now impacts) total (now members) count best visits spent × (32768 ≤ length (now buf)) ⌝ }
+    requires { ⌜ Answered (networkIn (now net)) (now impacts) total (now members) count best visits spent
+        × (32768 ≤ length (now buf)) ⌝ }
     ensures { λ r. ⌜ Written (reportText (networkIn (now (net .entry)))) (now (buf .entry)) (now (buf .exit)) r ⌝ }
 {
     let figure = outage::figure_of(net, total);

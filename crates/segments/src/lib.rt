@@ -69,7 +69,8 @@ fn has_entry(net: &buffer::Net, line: usize, side: usize) -> bool
 // An entry at the start of a table.
 fn put_entry(table: &mut [u64], line: u64, side: u64, weight: Weight, customers: Customers)
     requires { ⌜ (5 ≤ length (now table)) × (weight .0 * customers .0 < 2 ^ 64) ⌝ }
-    ensures { λ r. ⌜ now (table .exit) ≡ line ∷ side ∷ weight .0 ∷ customers .0 ∷ weight .0 * customers .0 ∷ drop 5 (now (table .entry)) ⌝ }
+    ensures { λ r. ⌜ now (table .exit)
+        ≡ line ∷ side ∷ weight .0 ∷ customers .0 ∷ weight .0 * customers .0 ∷ drop 5 (now (table .entry)) ⌝ }
 {
     table[0] = line;
     table[1] = side;
@@ -89,7 +90,8 @@ fn put_end(
 ) -> usize
     requires ready { ⌜ Summed (networkIn (now net)) (now sums) (now weights) × EndThere (now net) line side ⌝ }
     requires room { ⌜ 5 ≤ length (now table) ⌝ }
-    ensures written { λ r. ⌜ Written (entryOf (networkIn (now (net .entry))) (endIn line side)) (now (table .entry)) (now (table .exit)) r ⌝ }
+    ensures written { λ r. ⌜ Written (entryOf (networkIn (now (net .entry))) (endIn line side))
+        (now (table .entry)) (now (table .exit)) r ⌝ }
     ensures short { λ r. ⌜ r ≤ 5 ⌝ }
 {
     if has_entry(net, line, side) {
@@ -145,7 +147,8 @@ pub fn write_table(
     sums: &[u64; 768],
     table: &mut [u64],
 ) -> usize
-    requires ready { ⌜ Accepted (networkIn (now net)) × HoldsTrips (networkIn (now net)) (now trips) × HoldsCustomers (networkIn (now net)) (now sums) ⌝ }
+    requires ready { ⌜ Accepted (networkIn (now net))
+        × HoldsTrips (networkIn (now net)) (now trips) × HoldsCustomers (networkIn (now net)) (now sums) ⌝ }
     requires room { ⌜ 7680 ≤ length (now table) ⌝ }
     ensures count { λ r. ⌜ r ≡ length (breakerEnds (networkIn (now (net .entry)))) ⌝ }
     ensures written { λ r. ⌜ now (table .exit) ≡ over (segmentTable (networkIn (now (net .entry)))) (now (table .entry)) ⌝ }
