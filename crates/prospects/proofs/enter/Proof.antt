@@ -4,6 +4,7 @@ use native.Mathlib.Omega.{arith}
 use lib.ListN.{take}
 use Rattle.buffer.specs.Buffer.{networkIn}
 use Rattle.prospects.proofs.Entering.{Written, row, last-few, place-few, written-none, later-place, written-more, written-all}
+use borrow.Author.Needs.{needs}
 use Rattle.prospects.proofs.enter.Statement.{statement}
 use Rattle.prospects.proofs.enter.Tie as tie
 
@@ -12,9 +13,6 @@ Inv-loop net relations ends lists outlook₀ saved₀ set size last start row i�
 
 abbrev μ-loop : tie.MeasureT-loop
 μ-loop net relations ends lists outlook₀ saved₀ set size last start row i₀ i-end outlook saved i = i-end - i
-
-mul-start : tie.Need-mul-start Inv-loop μ-loop
-mul-start c = omega (arith, c .pre .few)
 
 mul-row : tie.Need-mul-row Inv-loop μ-loop
 mul-row c = omega (arith, last-few (c .pre))
@@ -73,7 +71,7 @@ enter-spec =
     (tie.spec
     Inv-loop
     μ-loop
-    mul-start
+    (search needs)
     mul-row
     mul-i-end
     element-copy-out-i-end

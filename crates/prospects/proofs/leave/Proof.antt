@@ -6,6 +6,7 @@ use lib.ListN.{length}
 use Rattle.relations.specs.Lists.{many}
 use Rattle.prospects.specs.Changes.{Changed}
 use Rattle.prospects.proofs.Undoing.{changed-less, changed-back}
+use borrow.Author.Needs.{needs}
 use Rattle.prospects.proofs.leave.Statement.{statement}
 use Rattle.prospects.proofs.leave.Tie as tie
 
@@ -14,21 +15,6 @@ Inv-loop lists outlook₀ saved size last start row i₀ i-end outlook i = (i-en
 
 abbrev μ-loop : tie.MeasureT-loop
 μ-loop lists outlook₀ saved size last start row i₀ i-end outlook i = i-end - i
-
-mul-start : tie.Need-mul-start Inv-loop μ-loop
-mul-start c = omega (arith, c .pre .2 .few)
-
-mul-row : tie.Need-mul-row Inv-loop μ-loop
-mul-row c = omega (arith, c .pre .2 .few)
-
-mul-i-end : tie.Need-mul-i-end Inv-loop μ-loop
-mul-i-end c = omega (arith, c .pre .2 .few)
-
-element-copy-out-i-end : tie.Need-element-copy-out-i-end Inv-loop μ-loop
-element-copy-out-i-end c = omega (arith, c .pre .2 .few)
-
-add-i-end : tie.Need-add-i-end Inv-loop μ-loop
-add-i-end c = omega (arith, c .before .pre .2 .few)
 
 loop-holds : tie.Need-loop-holds Inv-loop μ-loop
 loop-holds c = (refl, omega arith, omega arith, c .before .pre .0, λ old l x. x)
@@ -101,11 +87,11 @@ leave-spec =
     (tie.spec
     Inv-loop
     μ-loop
-    mul-start
-    mul-row
-    mul-i-end
-    element-copy-out-i-end
-    add-i-end
+    (search needs)
+    (search needs)
+    (search needs)
+    (search needs)
+    (search needs)
     loop-holds
     add-place
     mul-place

@@ -7,15 +7,6 @@ use borrow.Author.Needs.{needs}
 use Rattle.segments.proofs.put_entry.Statement.{statement}
 use Rattle.segments.proofs.put_entry.Tie as tie
 
-slice-write-table-2 : tie.Need-slice-write-table-2
-slice-write-table-2 c = simp length-set (omega arith)
-
-slice-write-table-3 : tie.Need-slice-write-table-3
-slice-write-table-3 c = simp length-set (omega arith)
-
-slice-write-table-4 : tie.Need-slice-write-table-4
-slice-write-table-4 c = simp length-set (omega arith)
-
 returns : tie.Need-returns
 returns c =
     let s = c .before .before .before .before .before in
@@ -28,11 +19,11 @@ put-entry-spec =
     tie.close
     (tie.spec
     (search needs)
-    slice-write-table-2
+    (λ c. simp length-set (omega arith))
     (search needs)
-    slice-write-table-3
+    (λ c. simp length-set (omega arith))
     (search needs)
-    slice-write-table-4
+    (λ c. simp length-set (omega arith))
     (search needs)
     (search needs)
     (λ c. search needs)
