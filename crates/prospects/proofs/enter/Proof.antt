@@ -30,13 +30,13 @@ loop-holds : tie.Need-loop-holds Inv-loop μ-loop
 loop-holds c = written-none (c .before .pre) _ refl
 
 add-place : tie.Need-add-place Inv-loop μ-loop
-add-place c = omega (arith, row (c .before .before .before .pre) .few, c .before .loop .inv .all)
+add-place c = omega (arith, row (c .before .before .before .pre) .few)
 
 mul-place : tie.Need-mul-place Inv-loop μ-loop
-mul-place c = omega (arith, row (c .before .before .before .pre) .few, c .before .loop .inv .all)
+mul-place c = omega (arith, row (c .before .before .before .pre) .few)
 
 element-copy-out-place : tie.Need-element-copy-out-place Inv-loop μ-loop
-element-copy-out-place c = omega (arith, row (c .before .before .before .pre) .few, c .before .loop .inv .all)
+element-copy-out-place c = omega (arith, row (c .before .before .before .pre) .few)
 
 upstream-of-requires : tie.Need-upstream-of-requires Inv-loop μ-loop
 upstream-of-requires c κs = (later-place (c .before .before .before .before .before .pre) (c .before .before .before .loop .inv) (c .before .before .loop-test .taken), c .before .before .before .before .before .pre .coded)
@@ -54,10 +54,7 @@ put-requires : tie.Need-put-requires Inv-loop μ-loop
 put-requires c κs = (c .before .before .before .before .before .before .before .before .before .before .before .before .loop .inv .outlookLong, place-few (c .before .before .before .before .before .before .before .before .before .before .before .before .before .before .pre) (c .before .before .before .before .before .before .before .before .before .before .before .before .loop .inv) (c .before .before .before .before .before .before .before .before .before .before .before .loop-test .taken))
 
 add-i : tie.Need-add-i Inv-loop μ-loop
-add-i c = omega (arith, row (c .before .before .before .before .before .before .before .before .before .before .before .before .before .before .before .pre) .few, c .before .before .before .before .before .before .before .before .before .before .before .before .before .loop .inv .all, c .before .before .before .before .before .before .before .before .before .before .before .before .loop-test .taken)
-
-loop-less : tie.Need-loop-less Inv-loop μ-loop
-loop-less c = omega (arith, c .before .before .before .before .before .before .before .before .before .before .before .before .loop-test .taken)
+add-i c = omega (arith, row (c .before .before .before .before .before .before .before .before .before .before .before .before .before .before .before .pre) .few)
 
 loop-again : tie.Need-loop-again Inv-loop μ-loop
 loop-again c = written-more (c .before .before .before .before .before .before .before .before .before .before .before .before .before .before .before .pre) (c .before .before .before .before .before .before .before .before .before .before .before .before .before .loop .inv) (c .before .before .before .before .before .before .before .before .before .before .before .before .loop-test .taken) (c .before .before .before .before .before .before .before .before .before .upstream-of .ensures) (c .before .before .before .before .before .before .before .weight-of .ensures) (c .before .before .before .before .before .in-series-of .ensures) (c .before .before .keep .ensures) (c .put .ensures)
@@ -86,6 +83,6 @@ enter-spec =
     keep-requires
     put-requires
     add-i
-    loop-less
+    (search needs)
     loop-again
     returns)

@@ -19,56 +19,41 @@ abbrev μ-loop : tie.MeasureT-loop
 loop-holds : tie.Need-loop-holds Inv-loop μ-loop
 loop-holds c = (refl, omega arith, omega arith, c .before .pre .0, λ old l x. x)
 
-add-place : tie.Need-add-place Inv-loop μ-loop
-add-place c = omega (arith, c .before .before .before .pre .2 .few, c .before .loop .inv .0)
-
-mul-place : tie.Need-mul-place Inv-loop μ-loop
-mul-place c = omega (arith, c .before .before .before .pre .2 .few, c .before .loop .inv .0)
-
-element-copy-out-place : tie.Need-element-copy-out-place Inv-loop μ-loop
-element-copy-out-place c = omega (arith, c .before .before .before .pre .2 .few, c .before .loop .inv .0)
-
 add-put : tie.Need-add-put Inv-loop μ-loop
-add-put c = omega (arith, c .before .before .before .before .before .pre .1, c .before .before .before .before .before .pre .2 .later (c .before .before .before .loop .i) (c .before .before .before .loop .inv .1) (omega (arith, c .before .before .before .loop .inv .0, c .before .before .loop-test .taken)))
+add-put c = omega (arith, c .before .before .before .before .before .pre .2 .later (c .before .before .before .loop .i) (search needs) (search needs))
 
 mul-put : tie.Need-mul-put Inv-loop μ-loop
-mul-put c = omega (arith, c .before .before .before .before .before .pre .1, c .before .before .before .before .before .pre .2 .later (c .before .before .before .loop .i) (c .before .before .before .loop .inv .1) (omega (arith, c .before .before .before .loop .inv .0, c .before .before .loop-test .taken)))
+mul-put c = omega (arith, c .before .before .before .before .before .pre .2 .later (c .before .before .before .loop .i) (search needs) (search needs))
 
 element-copy-out-put : tie.Need-element-copy-out-put Inv-loop μ-loop
-element-copy-out-put c = omega (arith, c .before .before .before .before .before .pre .1, c .before .before .before .before .before .pre .2 .later (c .before .before .before .loop .i) (c .before .before .before .loop .inv .1) (omega (arith, c .before .before .before .loop .inv .0, c .before .before .loop-test .taken)))
+element-copy-out-put c = omega (arith, c .before .before .before .before .before .pre .2 .later (c .before .before .before .loop .i) (search needs) (search needs))
 
 add-put-2 : tie.Need-add-put-2 Inv-loop μ-loop
-add-put-2 c = omega (arith, c .before .before .before .before .before .before .pre .1, c .before .before .before .before .before .before .pre .2 .later (c .before .before .before .before .loop .i) (c .before .before .before .before .loop .inv .1) (omega (arith, c .before .before .before .before .loop .inv .0, c .before .before .before .loop-test .taken)))
+add-put-2 c = omega (arith, c .before .before .before .before .before .before .pre .2 .later (c .before .before .before .before .loop .i) (search needs) (search needs))
 
 add-put-3 : tie.Need-add-put-3 Inv-loop μ-loop
-add-put-3 c = omega (arith, c .before .before .before .before .before .before .pre .1, c .before .before .before .before .before .before .pre .2 .later (c .before .before .before .before .loop .i) (c .before .before .before .before .loop .inv .1) (omega (arith, c .before .before .before .before .loop .inv .0, c .before .before .before .loop-test .taken)))
+add-put-3 c = omega (arith, c .before .before .before .before .before .before .pre .2 .later (c .before .before .before .before .loop .i) (search needs) (search needs))
 
 mul-put-2 : tie.Need-mul-put-2 Inv-loop μ-loop
-mul-put-2 c = omega (arith, c .before .before .before .before .before .before .pre .1, c .before .before .before .before .before .before .pre .2 .later (c .before .before .before .before .loop .i) (c .before .before .before .before .loop .inv .1) (omega (arith, c .before .before .before .before .loop .inv .0, c .before .before .before .loop-test .taken)))
+mul-put-2 c = omega (arith, c .before .before .before .before .before .before .pre .2 .later (c .before .before .before .before .loop .i) (search needs) (search needs))
 
 element-copy-out-put-2 : tie.Need-element-copy-out-put-2 Inv-loop μ-loop
-element-copy-out-put-2 c = omega (arith, c .before .before .before .before .before .before .pre .1, c .before .before .before .before .before .before .pre .2 .later (c .before .before .before .before .loop .i) (c .before .before .before .before .loop .inv .1) (omega (arith, c .before .before .before .before .loop .inv .0, c .before .before .before .loop-test .taken)))
+element-copy-out-put-2 c = omega (arith, c .before .before .before .before .before .before .pre .2 .later (c .before .before .before .before .loop .i) (search needs) (search needs))
 
 add-put-4 : tie.Need-add-put-4 Inv-loop μ-loop
-add-put-4 c = omega (arith, c .before .before .before .before .before .before .before .pre .1, c .before .before .before .before .before .before .before .pre .2 .later (c .before .before .before .before .before .loop .i) (c .before .before .before .before .before .loop .inv .1) (omega (arith, c .before .before .before .before .before .loop .inv .0, c .before .before .before .before .loop-test .taken)))
+add-put-4 c = omega (arith, c .before .before .before .before .before .before .before .pre .2 .later (c .before .before .before .before .before .loop .i) (search needs) (search needs))
 
 add-put-5 : tie.Need-add-put-5 Inv-loop μ-loop
-add-put-5 c = omega (arith, c .before .before .before .before .before .before .before .pre .1, c .before .before .before .before .before .before .before .pre .2 .later (c .before .before .before .before .before .loop .i) (c .before .before .before .before .before .loop .inv .1) (omega (arith, c .before .before .before .before .before .loop .inv .0, c .before .before .before .before .loop-test .taken)))
+add-put-5 c = omega (arith, c .before .before .before .before .before .before .before .pre .2 .later (c .before .before .before .before .before .loop .i) (search needs) (search needs))
 
 mul-put-3 : tie.Need-mul-put-3 Inv-loop μ-loop
-mul-put-3 c = omega (arith, c .before .before .before .before .before .before .before .pre .1, c .before .before .before .before .before .before .before .pre .2 .later (c .before .before .before .before .before .loop .i) (c .before .before .before .before .before .loop .inv .1) (omega (arith, c .before .before .before .before .before .loop .inv .0, c .before .before .before .before .loop-test .taken)))
+mul-put-3 c = omega (arith, c .before .before .before .before .before .before .before .pre .2 .later (c .before .before .before .before .before .loop .i) (search needs) (search needs))
 
 element-copy-out-put-3 : tie.Need-element-copy-out-put-3 Inv-loop μ-loop
-element-copy-out-put-3 c = omega (arith, c .before .before .before .before .before .before .before .pre .1, c .before .before .before .before .before .before .before .pre .2 .later (c .before .before .before .before .before .loop .i) (c .before .before .before .before .before .loop .inv .1) (omega (arith, c .before .before .before .before .before .loop .inv .0, c .before .before .before .before .loop-test .taken)))
+element-copy-out-put-3 c = omega (arith, c .before .before .before .before .before .before .before .pre .2 .later (c .before .before .before .before .before .loop .i) (search needs) (search needs))
 
 put-requires : tie.Need-put-requires Inv-loop μ-loop
-put-requires c κs = (c .before .before .before .before .before .before .loop .inv .3, omega (arith, c .before .before .before .before .before .before .before .before .pre .2 .later (c .before .before .before .before .before .before .loop .i) (c .before .before .before .before .before .before .loop .inv .1) (omega (arith, c .before .before .before .before .before .before .loop .inv .0, c .before .before .before .before .before .loop-test .taken))))
-
-add-i : tie.Need-add-i Inv-loop μ-loop
-add-i c = omega (arith, c .before .before .before .before .before .before .before .before .before .pre .2 .few, c .before .before .before .before .before .before .before .loop .inv .0, c .before .before .before .before .before .before .loop-test .taken)
-
-loop-less : tie.Need-loop-less Inv-loop μ-loop
-loop-less c = omega (arith, c .before .before .before .before .before .before .loop-test .taken)
+put-requires c κs = (c .before .before .before .before .before .before .loop .inv .3, omega (arith, c .before .before .before .before .before .before .before .before .pre .2 .later (c .before .before .before .before .before .before .loop .i) (search needs) (search needs)))
 
 loop-again : tie.Need-loop-again Inv-loop μ-loop
 loop-again c =
@@ -93,9 +78,9 @@ leave-spec =
     (search needs)
     (search needs)
     loop-holds
-    add-place
-    mul-place
-    element-copy-out-place
+    (search needs)
+    (search needs)
+    (search needs)
     add-put
     mul-put
     element-copy-out-put
@@ -108,7 +93,7 @@ leave-spec =
     mul-put-3
     element-copy-out-put-3
     put-requires
-    add-i
-    loop-less
+    (search needs)
+    (search needs)
     loop-again
     returns)
