@@ -39,25 +39,32 @@ element-copy-out-place : tie.Need-element-copy-out-place Inv-loop μ-loop
 element-copy-out-place c = omega (arith, row (c .before .before .before .pre) .few)
 
 upstream-of-requires : tie.Need-upstream-of-requires Inv-loop μ-loop
-upstream-of-requires c κs = (later-place (c .before .before .before .before .before .pre) (c .before .before .before .loop .inv) (c .before .before .loop-test .taken), c .before .before .before .before .before .pre .coded)
+upstream-of-requires c κs = let t = c .before .before in (later-place (t .before .before .before .pre) (t .before .loop .inv) (t .loop-test .taken), t .before .before .before .pre .coded)
 
 weight-of-requires : tie.Need-weight-of-requires Inv-loop μ-loop
-weight-of-requires c κs = later-place (c .before .before .before .before .before .before .before .pre) (c .before .before .before .before .before .loop .inv) (c .before .before .before .before .loop-test .taken)
+weight-of-requires c κs = let t = c .before .before .before .before in later-place (t .before .before .before .pre) (t .before .loop .inv) (t .loop-test .taken)
 
 in-series-of-requires : tie.Need-in-series-of-requires Inv-loop μ-loop
-in-series-of-requires c κs = later-place (c .before .before .before .before .before .before .before .before .before .pre) (c .before .before .before .before .before .before .before .loop .inv) (c .before .before .before .before .before .before .loop-test .taken)
+in-series-of-requires c κs = let t = c .before .before .before .before .before .before in later-place (t .before .before .before .pre) (t .before .loop .inv) (t .loop-test .taken)
 
 keep-requires : tie.Need-keep-requires Inv-loop μ-loop
-keep-requires c κs = (c .before .before .before .before .before .before .before .before .before .before .loop .inv .savedLong, omega (arith, c .before .before .before .before .before .before .before .before .before .before .before .before .pre .few), place-few (c .before .before .before .before .before .before .before .before .before .before .before .before .pre) (c .before .before .before .before .before .before .before .before .before .before .loop .inv) (c .before .before .before .before .before .before .before .before .before .loop-test .taken))
+keep-requires c κs =
+    let t = c .before .before .before .before .before .before .before .before .before in
+    (t .before .loop .inv .savedLong, omega (arith, t .before .before .before .pre .few), place-few (t .before .before .before .pre) (t .before .loop .inv) (t .loop-test .taken))
 
 put-requires : tie.Need-put-requires Inv-loop μ-loop
-put-requires c κs = (c .before .before .before .before .before .before .before .before .before .before .before .before .loop .inv .outlookLong, place-few (c .before .before .before .before .before .before .before .before .before .before .before .before .before .before .pre) (c .before .before .before .before .before .before .before .before .before .before .before .before .loop .inv) (c .before .before .before .before .before .before .before .before .before .before .before .loop-test .taken))
+put-requires c κs =
+    let t = c .before .before .before .before .before .before .before .before .before .before .before in
+    (t .before .loop .inv .outlookLong, place-few (t .before .before .before .pre) (t .before .loop .inv) (t .loop-test .taken))
 
 add-i : tie.Need-add-i Inv-loop μ-loop
 add-i c = omega (arith, row (c .before .before .before .before .before .before .before .before .before .before .before .before .before .before .before .pre) .few)
 
 loop-again : tie.Need-loop-again Inv-loop μ-loop
-loop-again c = written-more (c .before .before .before .before .before .before .before .before .before .before .before .before .before .before .before .pre) (c .before .before .before .before .before .before .before .before .before .before .before .before .before .loop .inv) (c .before .before .before .before .before .before .before .before .before .before .before .before .loop-test .taken) (c .before .before .before .before .before .before .before .before .before .upstream-of .ensures) (c .before .before .before .before .before .before .before .weight-of .ensures) (c .before .before .before .before .before .in-series-of .ensures) (c .before .before .keep .ensures) (c .put .ensures)
+loop-again c =
+    let t = c .before .before .before .before .before .before .before .before .before .before .before .before in
+    written-more (t .before .before .before .pre) (t .before .loop .inv) (t .loop-test .taken)
+    (c .before .before .before .before .before .before .before .before .before .upstream-of .ensures) (c .before .before .before .before .before .before .before .weight-of .ensures) (c .before .before .before .before .before .in-series-of .ensures) (c .before .before .keep .ensures) (c .put .ensures)
 
 returns : tie.Need-returns Inv-loop μ-loop
 returns c = written-all (c .before .before .before .pre) (c .before .loop .inv) (c .loop-test .left)

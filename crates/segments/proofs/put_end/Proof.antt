@@ -12,13 +12,17 @@ put-entry-requires : tie.Need-put-entry-requires
 put-entry-requires c κs =
     let s = c .before .before .before .before .before .before in
     let g = s .args in
-    (s .pre .1, amount-fits (networkIn (g .net .now)) (g .line) (g .side) (g .sums .now) (g .weights .now) (s .pre .0 .0) (s .pre .0 .1 .line .low) (s .pre .0 .1 .line .high) (sym (c .before .before .before .before .has-entry .ensures) ∙ c .before .before .before .if1 .taken) _ _ (c .before .before .breaker-weight .ensures) (c .before .line-customers .ensures))
+    let e = s .pre .0 .1 .line in
+    let h = sym (c .before .before .before .before .has-entry .ensures) ∙ c .before .before .before .if1 .taken in
+    (s .pre .1, amount-fits (networkIn (g .net .now)) (g .line) (g .side) (g .sums .now) (g .weights .now) (s .pre .0 .0) (e .low) (e .high) h _ _ (c .before .before .breaker-weight .ensures) (c .before .line-customers .ensures))
 
 returns : tie.Need-returns
 returns c =
     let s = c .before .before .before .before .before .before .before .before .before in
     let g = s .args in
-    let i = entry-is (networkIn (g .net .now)) (g .line) (g .side) (g .sums .now) (g .weights .now) (s .pre .0 .0) (s .pre .0 .1 .line .low) (s .pre .0 .1 .line .high) (sym (c .before .before .before .before .before .before .before .has-entry .ensures) ∙ c .before .before .before .before .before .before .if1 .taken) _ _ (c .before .before .before .before .before .breaker-weight .ensures) (c .before .before .before .before .line-customers .ensures) in
+    let e = s .pre .0 .1 .line in
+    let h = sym (c .before .before .before .before .before .before .before .has-entry .ensures) ∙ c .before .before .before .before .before .before .if1 .taken in
+    let i = entry-is (networkIn (g .net .now)) (g .line) (g .side) (g .sums .now) (g .weights .now) (s .pre .0 .0) (e .low) (e .high) h _ _ (c .before .before .before .before .before .breaker-weight .ensures) (c .before .before .before .before .line-customers .ensures) in
     (same-text _ _ (g .table .now) _ 5 i (refl, c .before .before .put-entry .ensures), omega arith)
 
 returns-2 : tie.Need-returns-2

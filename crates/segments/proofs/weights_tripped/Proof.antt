@@ -59,7 +59,10 @@ loop-again c =
     let s = c .before .before .before .before .before .before .before .before in
     let h = c .before .before .before .before .loop in
     let t = c .before .before .trip-code .result in
-    (omega arith, omega arith, omega arith, simp length-set (h .inv .3), noted-more (networkIn (s .args .net .now)) (h .weights) (h .i) t (c .weight .result) (omega arith) (omega (arith, trip-in (networkIn (s .args .net .now)) (s .pre .0 .read) (s .pre .0 .rules) (s .args .trips .now) (s .pre .1) (c .before .before .before .before .loop .i) (omega arith) (c .before .before .trip-code .result) (omega arith))) (trip-is (networkIn (s .args .net .now)) (s .pre .0 .read) (s .pre .0 .rules) (s .args .trips .now) (s .pre .1) (c .before .before .before .before .loop .i) (omega arith) (c .before .before .trip-code .result) (omega arith)) (c .weight .ensures) (h .inv .4))
+    let N = networkIn (s .args .net .now) in
+    let low = trip-in N (s .pre .0 .read) (s .pre .0 .rules) (s .args .trips .now) (s .pre .1) (h .i) (omega arith) t (omega arith) in
+    let is = trip-is N (s .pre .0 .read) (s .pre .0 .rules) (s .args .trips .now) (s .pre .1) (h .i) (omega arith) t (omega arith) in
+    (omega arith, omega arith, omega arith, simp length-set (h .inv .3), noted-more N (h .weights) (h .i) t (c .weight .result) (omega arith) (omega (arith, low)) is (c .weight .ensures) (h .inv .4))
 
 returns : tie.Need-returns Inv-loop μ-loop
 returns c =
