@@ -28,12 +28,15 @@ element-copy-out-spared-2 : tie.Need-element-copy-out-spared-2
 element-copy-out-spared-2 c = omega (arith, own-line (c .before .before .before .pre .0) (c .before .place-line .ensures))
 
 sub-spared-3 : tie.Need-sub-spared-3
-sub-spared-3 c = no-fewer (c .before .before .before .before .pre .0) (c .before .before .before .upstream-of .ensures) (c .before .before .before .before .args .sums .now) (c .before .before .before .before .pre .2) (c .before .before .place-line .ensures)
+sub-spared-3 c =
+    let d = c .before .before .before .before in
+    no-fewer (d .pre .0) (c .before .before .before .upstream-of .ensures) (d .args .sums .now) (d .pre .2) (c .before .before .place-line .ensures)
 
 times-requires : tie.Need-times-requires
 times-requires c κs =
     let d = c .before .before .before .before .before .before .before in
-    omega (arith, ap (λ n. n * c .new2 .result .0) (c .before .new .ensures) ∙ ap (λ n. c .before .before .weight-of .result * n) (c .new2 .ensures), fall-size (d .pre .0) (c .before .before .before .before .before .before .upstream-of .ensures) (d .args .sums .now) (d .pre .2) (c .before .before .before .before .before .place-line .ensures) (c .before .before .weight-of .ensures))
+    let size = fall-size (d .pre .0) (c .before .before .before .before .before .before .upstream-of .ensures) (d .args .sums .now) (d .pre .2) (c .before .before .before .before .before .place-line .ensures) (c .before .before .weight-of .ensures) in
+    omega (arith, ap (λ n. n * c .new2 .result .0) (c .before .new .ensures) ∙ ap (λ n. c .before .before .weight-of .result * n) (c .new2 .ensures), size)
 
 returns : tie.Need-returns
 returns c =

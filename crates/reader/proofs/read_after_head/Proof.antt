@@ -41,19 +41,21 @@ returns-2 c =
 
 read-places-requires : tie.Need-read-places-requires
 read-places-requires c κs =
-    let a = c .before .before .before .before .before .before .before .before .before .before .before .before .before .before .before .before .args in
+    let d = c .before .before .before .before .before .before .before .before .before .before .before .before .before .before .before .before in
+    let a = d .args in
     let s = c .before .before .before .before .before .before .before .before .before .before .before .before .before .station-count in
     let l = c .before .before .before .before .before .before .before .before .before .before .before .line-count in
     let r₁ = c .before .before .before .before .before .before .before .before .before .read-stations in
     let t₁ = c .before .before .before .before .before .before .before .step2 in
     let r₂ = c .before .before .before .before .read-lines in
     let t₂ = c .before .before .step4 in
-    let f = fits₂ (a .net .now) (r₁ .last .1 .1 .1 .1 .0) (r₂ .last .1 .1 .1 .1 .0) (r₁ .ensures .1 .1) (r₂ .ensures .1 .1) (s .result) (l .result) (s .ensures) (l .ensures) (omega (arith, s .ensures, c .before .before .before .before .before .before .before .before .before .before .before .before .before .before .before .before .pre .1)) (omega (arith, l .ensures, c .before .before .before .before .before .before .before .before .before .before .before .before .before .before .before .before .pre .2)) in
+    let f = fits₂ (a .net .now) (r₁ .last .1 .1 .1 .1 .0) (r₂ .last .1 .1 .1 .1 .0) (r₁ .ensures .1 .1) (r₂ .ensures .1 .1) (s .result) (l .result) (s .ensures) (l .ensures) (omega (arith, s .ensures, d .pre .1)) (omega (arith, l .ensures, d .pre .2)) in
     (next-within (a .file .now) (r₂ .result) (r₂ .ensures .1 .0) (t₂ .given .0 .0) (t₂ .given .1), f .0, f .1)
 
 returns-3 : tie.Need-returns-3
 returns-3 c =
-    let a = c .before .before .before .before .before .before .before .before .before .before .before .before .before .before .before .before .before .args in
+    let d = c .before .before .before .before .before .before .before .before .before .before .before .before .before .before .before .before .before in
+    let a = d .args in
     let s = c .before .before .before .before .before .before .before .before .before .before .before .before .before .before .station-count in
     let l = c .before .before .before .before .before .before .before .before .before .before .before .before .line-count in
     let r₁ = c .before .before .before .before .before .before .before .before .before .before .read-stations in
@@ -67,7 +69,7 @@ returns-3 c =
     (says-next (a .file .now) (r₂ .result) _ _ (r₂ .ensures .0) (t₂ .given .0 .0) (t₂ .given .1))
     (networkIn (r₂ .last .1 .1 .1 .1 .0))
     (head₂ (a .net .now) (r₁ .last .1 .1 .1 .1 .0) (r₂ .last .1 .1 .1 .1 .0) (r₁ .ensures .1 .1) (r₂ .ensures .1 .1))
-    (stations₂ (a .net .now) (r₁ .last .1 .1 .1 .1 .0) (r₂ .last .1 .1 .1 .1 .0) (r₁ .ensures .1 .1) (r₂ .ensures .1 .1) (s .result) (l .result) (s .ensures) (l .ensures) (search needs) (search needs) (omega (arith, s .ensures, c .before .before .before .before .before .before .before .before .before .before .before .before .before .before .before .before .before .pre .1)))
+    (stations₂ (a .net .now) (r₁ .last .1 .1 .1 .1 .0) (r₂ .last .1 .1 .1 .1 .0) (r₁ .ensures .1 .1) (r₂ .ensures .1 .1) (s .result) (l .result) (s .ensures) (l .ensures) (search needs) (search needs) (omega (arith, s .ensures, d .pre .1)))
     (lines₂ (a .net .now) (r₁ .last .1 .1 .1 .1 .0) (r₂ .last .1 .1 .1 .1 .0) (r₁ .ensures .1 .1) (r₂ .ensures .1 .1) (s .result) (l .result) (s .ensures) (l .ensures))
 
 pub read-after-head-spec : {M : Type 1} → statement M
