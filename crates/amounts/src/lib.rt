@@ -69,6 +69,14 @@ impl Total {
         self.0 < other.0
     }
 
+    // Whether this total, with at most `more` added, can pass another.
+    pub fn can_pass(self, more: u64, other: Total) -> bool
+        requires { ⌜ self .0 + more < 2 ^ 64 ⌝ }
+        ensures { λ r. ⌜ r ≡ ltb (other .0) (self .0 + more) ⌝ }
+    {
+        other.0 < self.0 + more
+    }
+
     // The total as a number.
     pub fn number(self) -> u64
         ensures { λ r. ⌜ r ≡ self .0 ⌝ }

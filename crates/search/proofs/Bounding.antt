@@ -11,11 +11,12 @@ use lib.ListN.{length}
 use borrow.Author.Tests.{le-leb, lt-leb}
 use Rattle.model.specs.Lists.{numbers}
 use Rattle.model.specs.Network.{Network}
+use Rattle.model.specs.Outage.{total}
 use Rattle.model.specs.Sets.{allowed, setTotal, saving}
 use Rattle.model.specs.Walk.{Found, largest, hopeless, extend}
 use Rattle.walks.specs.Runs.{extend-spent, extend-hopeless, extend-allowed, extend-barred, on-true, on-false}
 use Rattle.bounds.specs.Bounds.{placesFrom, mostSaved}
-use Rattle.search.specs.Walking.{extended, tried, Barren}
+use Rattle.search.specs.Walking.{extended, tried, Barren, Promising}
 
 module _ (N : Network) (S : List ℕ) where
   -- the defined walk over a list of places
@@ -60,10 +61,10 @@ module _ (N : Network) (S : List ℕ) where
         n : length (N .places) + 1 - place ≡ suc (length (N .places) + 1 - (place + 1))
         n = omega arith
 
-    pub stop-spent : f .spent ≡ true → extended N r S place f ≡ f
+    stop-spent : f .spent ≡ true → extended N r S place f ≡ f
     stop-spent e = split ∙ extend-spent (N .head .visits) (λ T. setTotal N T) (λ T. allowed N T) (λ p. saving N p) (r - 1) S place (placesFrom N (place + 1)) f e
 
-    pub stop-bound : f .best + bound ≤ setTotal N S → extended N r S place f ≡ f
+    stop-bound : f .best + bound ≤ setTotal N S → extended N r S place f ≡ f
     stop-bound e = go (f .spent) refl
       where
         go : (b : Bool) → f .spent ≡ b → extended N r S place f ≡ f
@@ -73,7 +74,7 @@ module _ (N : Network) (S : List ℕ) where
             (hopeless-is ∙ le-leb (f .best + bound) (setTotal N S) e)
 
     -- the place is tried, and the walk goes on with the next
-    pub go-on : f .spent ≡ false → setTotal N S < f .best + bound → extended N r S place f ≡ extended N r S (place + 1) (tried N (r - 1) S place f)
+    go-on : f .spent ≡ false → setTotal N S < f .best + bound → extended N r S place f ≡ extended N r S (place + 1) (tried N (r - 1) S place f)
     unfolding tried
     go-on u e = split ∙ go (allowed N (S ++ (place ∷ []))) refl ∙ ap (λ k. walked k (placesFrom N (place + 1)) (tried N (r - 1) S place f)) {x = suc (r - 1)} {y = r} (omega arith)
       where
@@ -88,11 +89,17 @@ module _ (N : Network) (S : List ℕ) where
             extend-barred (N .head .visits) (λ T. setTotal N T) (λ T. allowed N T) (λ p. saving N p) (r - 1) S place (placesFrom N (place + 1)) f u hope b
             ∙ ap (walked (suc (r - 1)) (placesFrom N (place + 1))) (sym (on-false _ _ b))
 
-  -- a set with nothing to gain
-  pub barren : (r place : ℕ) (f : Found) → Barren N (f .spent) (f .best) (setTotal N S) place r → extended N r S place f ≡ f
-  barren r place f x = go (decLt (length (N .places)) place) (decLt 0 r)
-    where
-      go : Dec (length (N .places) < place) → Dec (0 < r) → extended N r S place f ≡ f
-      go (yes h) _ = none-later r place f h
-      go (no h) (no l) = none-more r place f (omega arith)
-      go (no h) (yes l) = ⊎-elim (λ e. absurd (omega arith)) (λ y. ⊎-elim (λ e. absurd (h e)) (λ z. ⊎-elim (stop-spent r place (omega arith) (λ e. omega arith) f) (stop-bound r place (omega arith) (λ e. omega arith) f) z) y) x
+  -- a set that saves so much, where the best saves `most`
+  module _ (r place : ℕ) (f : Found) {most : ℕ} (saved : ℕ) (m : most ≤ total N) (b : f .best ≡ total N - most) (s : saved + setTotal N S ≡ total N) where
+    -- nothing is to be gained
+    pub barren : Barren N (f .spent) most saved place r → extended N r S place f ≡ f
+    barren x = go (decLt (length (N .places)) place) (decLt 0 r)
+      where
+        go : Dec (length (N .places) < place) → Dec (0 < r) → extended N r S place f ≡ f
+        go (yes h) _ = none-later r place f h
+        go (no h) (no l) = none-more r place f (omega arith)
+        go (no h) (yes l) = ⊎-elim (λ e. absurd (omega arith)) (λ y. ⊎-elim (λ e. absurd (h e)) (λ z. ⊎-elim (stop-spent r place (omega arith) (λ e. omega arith) f) (λ e. stop-bound r place (omega arith) (λ z. omega arith) f (omega arith)) z) y) x
+
+    -- the place is tried, and the walk goes on with the next
+    pub promising : Promising N (f .spent) most saved place r → extended N r S place f ≡ extended N r S (place + 1) (tried N (r - 1) S place f)
+    promising h = go-on r place (h .high) (h .some) f (h .unspent) (omega (arith, h .hope))

@@ -9,7 +9,8 @@ use native.Mathlib.Omega.{arith}
 use lib.ListN.{length, length-set, set, take}
 use lib.Seq.{take-suc-set, take-set-le, take-take}
 use Rattle.model.specs.Network.{Network}
-use Rattle.model.specs.Sets.{withBreakers, allowed, setTotal}
+use Rattle.model.specs.Outage.{total}
+use Rattle.model.specs.Sets.{withBreakers, allowed}
 use Rattle.model.specs.Walk.{Found}
 use Rattle.walks.specs.Runs.{on-true}
 use Rattle.theory.specs.Series.{series-rule, allowed-means}
@@ -23,7 +24,7 @@ use Rattle.search.specs.declared.Current.{Current}
 use Rattle.prospects.proofs.OneMore.{before-later}
 use Rattle.prospects.proofs.Undoing.{changed-kept}
 use Rattle.prospects.proofs.Entering.{row-wide}
-use Rattle.search.proofs.Bounding.{go-on, barren}
+use Rattle.search.proofs.Bounding.{barren, promising}
 
 -- what is the same of more numbers is the same of fewer
 shorter : (xs ys : List ℕ) (m n : ℕ) → m ≤ n → take n xs ≡ take n ys → take m xs ≡ take m ys
@@ -51,11 +52,17 @@ pub record Going (N : Network) (lists outlook₀ saved₀ set₀ : List ℕ) (at
   pub savedLong : length saved ≡ 3120
   pub savedSame : SameUpTo (at .size * 195) saved₀ saved
   pub state : State N lists outlook₀ (take (at .size) set₀) (at .size) (at .last) pending outlook saved
-  pub same : extended N left (take (at .size) set₀) place (foundIn p best) ≡ extended N left (take (at .size) set₀) from f₀
+  pub same : extended N left (take (at .size) set₀) place (foundIn N p best) ≡ extended N left (take (at .size) set₀) from f₀
+
+pub saves-next : {N : Network} {set : List ℕ} {at : Current} {place : ℕ} {next : Current} → Next N set at place next → next .saved .0 ≤ total N
+saves-next n = omega (arith, n .saved)
 
 module _ {N : Network} {relations ends lists sums bounds outlook₀ saved₀ set₀ : List ℕ} {at : Current} {from left : ℕ} (x : Extending N relations ends lists sums bounds outlook₀ saved₀ set₀ at from left) where
   abbrev S : List ℕ
   S = take (at .size) set₀
+
+  pub saves : at .saved .0 ≤ total N
+  saves = omega (arith, x .standing .saved)
 
   pub few : left ≤ 16
   few = omega (arith, x .few, x .standing .chosen .accepted .read .head .adds .high)
@@ -73,7 +80,7 @@ module _ {N : Network} {relations ends lists sums bounds outlook₀ saved₀ set
   state-kept e u (inr s) = inr (s .0, s .1, s .2, rw e (s .3), rw e (changed-kept (row (s .1)) (omega arith) u (s .4)))
 
   pub going-first : (p : Progress) (best : List ℕ) → length best ≡ 16 → Counted N p
-      → Going N lists outlook₀ saved₀ set₀ at from left (foundIn p best) from p (at .last) outlook₀ saved₀ set₀ best
+      → Going N lists outlook₀ saved₀ set₀ at from left (foundIn N p best) from p (at .last) outlook₀ saved₀ set₀ best
   going-first p best b k = record {
     low = omega arith;
     within = x .high;
@@ -90,15 +97,15 @@ module _ {N : Network} {relations ends lists sums bounds outlook₀ saved₀ set
 
   module _ {f₀ : Found} {place : ℕ} {p : Progress} {pending : ℕ} {outlook saved set' best : List ℕ} (g : Going N lists outlook₀ saved₀ set₀ at from left f₀ place p pending outlook saved set' best) where
     abbrev f : Found
-    f = foundIn p best
+    f = foundIn N p best
 
     pub low : 1 ≤ place
     low = omega (arith, x .low, g .low)
 
     -- where the walk goes no further and the outlook is as it came, it leaves what it has found
-    stopped : {outlook' : List ℕ} → outlook' ≡ outlook₀ → Barren N (p .spent) (p .best .0) (at .total .0) place left → Left N (extended N left S from f₀) (at .size) p outlook₀ outlook' saved₀ saved set₀ set' best
+    stopped : {outlook' : List ℕ} → outlook' ≡ outlook₀ → Barren N (p .spent) (p .saved .0) (at .saved .0) place left → Left N (extended N left S from f₀) (at .size) p outlook₀ outlook' saved₀ saved set₀ set' best
     stopped e b = record {
-      found = sym (barren N S left place f (subst (λ m. Barren N (p .spent) (p .best .0) m place left) (x .standing .total) b)) ∙ g .same;
+      found = sym (barren N S left place f (at .saved .0) (g .counted .saved) refl (x .standing .saved) b) ∙ g .same;
       counted = g .counted;
       bestLong = g .bestLong;
       setLong = g .setLong;
@@ -108,7 +115,7 @@ module _ {N : Network} {relations ends lists sums bounds outlook₀ saved₀ set
       savedSame = g .savedSame;
     }
 
-    pub stopped-same : pending ≡ at .last → Barren N (p .spent) (p .best .0) (at .total .0) place left → Left N (extended N left S from f₀) (at .size) p outlook₀ outlook saved₀ saved set₀ set' best
+    pub stopped-same : pending ≡ at .last → Barren N (p .spent) (p .saved .0) (at .saved .0) place left → Left N (extended N left S from f₀) (at .size) p outlook₀ outlook saved₀ saved set₀ set' best
     stopped-same e = stopped (⊎-elim (λ s. s .1) (λ s. absurd (omega (arith, s .0, s .1))) (g .state))
 
     -- the outlook is the set's own, and its changes are undone
@@ -122,7 +129,7 @@ module _ {N : Network} {relations ends lists sums bounds outlook₀ saved₀ set
       pub left-row : Row lists (at .last) (many lists (at .last)) 65
       left-row = row (entered .0)
 
-      pub stopped-undone : {outlook' : List ℕ} → Undone lists (at .last) (at .size * 195) (many lists (at .last) + 1) saved outlook outlook' → Barren N (p .spent) (p .best .0) (at .total .0) place left
+      pub stopped-undone : {outlook' : List ℕ} → Undone lists (at .last) (at .size * 195) (many lists (at .last) + 1) saved outlook outlook' → Barren N (p .spent) (p .saved .0) (at .saved .0) place left
           → Left N (extended N left S from f₀) (at .size) p outlook₀ outlook' saved₀ saved set₀ set' best
       stopped-undone u = stopped (u outlook₀ (x .outlookLong) (entered .2))
 
@@ -138,7 +145,7 @@ module _ {N : Network} {relations ends lists sums bounds outlook₀ saved₀ set
       setLong = g .setLong;
       chosen = rw (g .setSame) (x .standing .chosen);
       is-pending = rw (g .setSame) is-pending;
-      total = x .standing .total ∙ ap (setTotal N) (sym (g .setSame));
+      saved = rw (g .setSame) (x .standing .saved);
       cost = rw (g .setSame) (x .standing .cost);
       hours = rw (g .setSame) (x .standing .hours);
       affordable = x .standing .affordable;
@@ -150,7 +157,7 @@ module _ {N : Network} {relations ends lists sums bounds outlook₀ saved₀ set
     seeking = record { standing = standing; table = x .table; counted = g .counted; low = omega (arith, x .low, g .low); high = g .within; few = x .few }
 
     -- and the walk has come to it
-    pub going-sought : {next : ℕ} → Sought N S' (at .total .0) place left p next → Going N lists outlook₀ saved₀ set₀ at from left f₀ next p pending outlook saved set' best
+    pub going-sought : {next : ℕ} → Sought N S' (at .saved .0) place left p next → Going N lists outlook₀ saved₀ set₀ at from left f₀ next p pending outlook saved set' best
     going-sought {next} s = record {
       low = omega (arith, g .low, s .low);
       within = s .high;
@@ -165,7 +172,7 @@ module _ {N : Network} {relations ends lists sums bounds outlook₀ saved₀ set
       same = subst (λ U. extended N left U next f ≡ extended N left U place f) (g .setSame) (s .same f refl refl) ∙ g .same;
     }
 
-    module _ (h : Promising N (p .spent) (p .best .0) (at .total .0) place left) where
+    module _ (h : Promising N (p .spent) (p .saved .0) (at .saved .0) place left) where
       -- the place is tried
       pub trying : Trying N relations outlook set' at pending place
       trying = record { standing = standing; low = omega (arith, x .low, g .low); high = h .high; few = omega (arith, x .few, h .some) }
@@ -198,18 +205,18 @@ module _ {N : Network} {relations ends lists sums bounds outlook₀ saved₀ set
       tried-is : extended N left S (place + 1) (tried N (left - 1) S' place f) ≡ extended N left S from f₀
       tried-is =
           ap (λ U. extended N left S (place + 1) (tried N (left - 1) U place f)) (g .setSame)
-          ∙ sym (go-on N S left place (h .high) (h .some) f (h .unspent) (omega (arith, h .hope, x .standing .total)))
+          ∙ sym (promising N S left place f (at .saved .0) (g .counted .saved) refl (x .standing .saved) h)
           ∙ g .same
 
       -- the set with the place is visited
       module _ (b : allowed N T ≡ true) {next : Current} (n : Next N set' at place next) (q : Progress) (best₁ : List ℕ) (long : length best₁ ≡ 16) (k : Counted N q)
-          (v : foundIn q best₁ ≡ visited N (take (at .size + 1) set⁺) f) where
-        tried-allowed : extended N (left - 1) T (place + 1) (foundIn q best₁) ≡ tried N (left - 1) S' place f
+          (v : foundIn N q best₁ ≡ visited N (take (at .size + 1) set⁺) f) where
+        tried-allowed : extended N (left - 1) T (place + 1) (foundIn N q best₁) ≡ tried N (left - 1) S' place f
         unfolding tried
         tried-allowed = ap (extended N (left - 1) T (place + 1)) (v ∙ ap (λ U. visited N U f) set⁺-is) ∙ sym (on-true _ _ b)
 
         -- and not extended
-        pub on-barren : Barren N (q .spent) (q .best .0) (next .total .0) (place + 1) (left - 1) → On q pending outlook saved set⁺ best₁
+        pub on-barren : Barren N (q .spent) (q .saved .0) (next .saved .0) (place + 1) (left - 1) → On q pending outlook saved set⁺ best₁
         on-barren r = record {
           low = omega (arith, g .low);
           within = omega (arith, h .high);
@@ -223,8 +230,7 @@ module _ {N : Network} {relations ends lists sums bounds outlook₀ saved₀ set
           state = g .state;
           same =
               ap (extended N left S (place + 1))
-              (sym (barren N T (left - 1) (place + 1) (foundIn q best₁)
-              (subst (λ m. Barren N (q .spent) (q .best .0) m (place + 1) (left - 1)) (n .total) r)) ∙ tried-allowed)
+              (sym (barren N T (left - 1) (place + 1) (foundIn N q best₁) (next .saved .0) (k .saved) refl (n .saved) r) ∙ tried-allowed)
               ∙ tried-is;
         }
 
@@ -300,7 +306,7 @@ module _ {N : Network} {relations ends lists sums bounds outlook₀ saved₀ set
               setLong = set⁺-long;
               chosen = rw (next-is, n .last) chosen;
               is-pending = rw (next-is, n .last) (inr (refl, record { rest = S'; low = low; is = refl; before = before }, rw (g .setSame) (λ p a b. own .2 p (omega (arith, trying .low)) b)));
-              total = n .total ∙ ap (setTotal N) (sym next-is);
+              saved = rw next-is (n .saved);
               cost = rw next-is (n .cost);
               hours = rw next-is (n .hours);
               affordable = omega (arith, n .cost, allowed-means N T .0 b .money);
@@ -314,7 +320,7 @@ module _ {N : Network} {relations ends lists sums bounds outlook₀ saved₀ set
           }
 
           pub on-extended : (q₂ : Progress) (outlook₂ saved₂ set₂ best₂ : List ℕ)
-              → Left N (extended N (left - 1) (take (next .size) set⁺) (place + 1) (foundIn q best₁)) (next .size) q₂ outlook₁ outlook₂ saved₁ saved₂ set⁺ set₂ best₂
+              → Left N (extended N (left - 1) (take (next .size) set⁺) (place + 1) (foundIn N q best₁)) (next .size) q₂ outlook₁ outlook₂ saved₁ saved₂ set⁺ set₂ best₂
               → On q₂ 0 outlook₂ saved₂ set₂ best₂
           on-extended q₂ outlook₂ saved₂ set₂ best₂ r = record {
             low = omega (arith, g .low);
@@ -328,6 +334,6 @@ module _ {N : Network} {relations ends lists sums bounds outlook₀ saved₀ set
             savedSame = λ k l. r .savedSame k (omega (arith, n .size)) ∙ own .3 k l;
             state = state-kept (r .outlookSame) (λ k l. r .savedSame k (omega (arith, n .size))) (own .4);
             same =
-                ap (extended N left S (place + 1)) (r .found ∙ ap (λ U. extended N (left - 1) U (place + 1) (foundIn q best₁)) next-is ∙ tried-allowed)
+                ap (extended N left S (place + 1)) (r .found ∙ ap (λ U. extended N (left - 1) U (place + 1) (foundIn N q best₁)) next-is ∙ tried-allowed)
                 ∙ tried-is;
           }

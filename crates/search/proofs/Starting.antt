@@ -8,32 +8,31 @@ use native.Mathlib.Omega.{arith}
 use lib.ListN.{length}
 use Rattle.model.specs.Lists.{sum, numbers}
 use Rattle.model.specs.Network.{Network}
+use Rattle.model.specs.Outage.{total}
 use Rattle.model.specs.Sets.{placeNumbers, withBreakers, allowed, setTotal, saving}
 use Rattle.model.specs.Walk.{Found, start, extend, walk, search}
-use Rattle.amounts.specs.declared.Total.{Total}
-use Rattle.theory.specs.Sizes.{read-sized, setTotal-size}
 use Rattle.search.specs.Walking.{foundIn, visited, extended, Counted, Extending, Starting}
 use Rattle.search.specs.declared.Progress.{Progress}
 use Rattle.prospects.proofs.Saving.{chosen-none}
 
-module _ {N : Network} {relations ends lists sums bounds outlook saved set₀ best : List ℕ} (t : Total) (x : Starting N relations ends lists sums bounds outlook saved set₀ best (t .0)) where
+module _ {N : Network} {relations ends lists sums bounds outlook saved set₀ best : List ℕ} (x : Starting N relations ends lists sums bounds outlook saved set₀ best) where
   abbrev first : Progress
-  first = record { best = t; count = 0; visits = 0; spent = false }
+  first = record { saved = record { 0 = 0 }; count = 0; visits = 0; spent = false }
 
-  pub total-none : t .0 ≡ setTotal N []
+  pub saved-none : 0 + setTotal N [] ≡ total N
   unfolding setTotal withBreakers
-  total-none = x .total
+  saved-none = omega arith
 
   pub counted-none : Counted N first
   counted-none = record {
-    best = omega (arith, total-none, setTotal-size N (read-sized N (x .tables .accepted .read)) []);
+    saved = omega arith;
     count = omega arith;
     visits = omega arith;
     limit = x .tables .accepted .read .head .visits .high;
   }
 
   module _ (adds : ℕ) (e : N .head .adds ≡ adds) where
-    pub extending-none : Extending N relations ends lists sums bounds outlook saved set₀ (record { size = 0; last = 0; total = t; cost = 0; hours = 0 }) 1 adds
+    pub extending-none : Extending N relations ends lists sums bounds outlook saved set₀ (record { size = 0; last = 0; saved = record { 0 = 0 }; cost = 0; hours = 0 }) 1 adds
     unfolding sum
     extending-none = record {
       coded = x .tables .coded;
@@ -44,7 +43,7 @@ module _ {N : Network} {relations ends lists sums bounds outlook saved set₀ be
         setLong = x .setLong;
         chosen = chosen-none N relations (x .tables .accepted) (x .tables .related);
         is-pending = inl (refl, x .holds);
-        total = total-none;
+        saved = saved-none;
         cost = refl;
         hours = refl;
         affordable = omega arith;
@@ -58,9 +57,10 @@ module _ {N : Network} {relations ends lists sums bounds outlook saved set₀ be
     }
 
     -- what is found from there is what the search finds
-    pub search-is : (f : Found) → f ≡ visited N [] (foundIn first best) → extended N adds [] 1 f ≡ search N
+    pub search-is : (f : Found) → f ≡ visited N [] (foundIn N first best) → extended N adds [] 1 f ≡ search N
     unfolding search walk start placeNumbers
     search-is f v =
         let n : length (N .places) + 1 - 1 ≡ length (N .places) = omega arith in
+        let whole : total N - 0 ≡ setTotal N [] = omega (arith, saved-none) in
         (λ i. extended N (sym e i) [] 1 (v i))
-        ∙ (λ i. extend (N .head .visits) (λ T. setTotal N T) (λ T. allowed N T) (λ p. saving N p) (N .head .adds) [] (numbers 1 (n i)) (visited N [] (record { members = []; best = total-none i; visits = 0; spent = false })))
+        ∙ (λ i. extend (N .head .visits) (λ T. setTotal N T) (λ T. allowed N T) (λ p. saving N p) (N .head .adds) [] (numbers 1 (n i)) (visited N [] (record { members = []; best = whole i; visits = 0; spent = false })))

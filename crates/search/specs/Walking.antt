@@ -1,5 +1,5 @@
 -- The walk over sets of places: what it has found, what it reads, and where it stands.
-use Prim.Native.Nat.{ℕ, _+_, _*_, _≤_, _<_}
+use Prim.Native.Nat.{ℕ, _+_, _*_, _-_, _≤_, _<_}
 use mathlib.Core.Path.{_≡_}
 use mathlib.Core.Bool.{Bool, true, false}
 use mathlib.Core.Logic.{_⊎_}
@@ -19,9 +19,9 @@ use Rattle.prospects.specs.Chosen.{Chosen, Pending, Tables}
 use Rattle.search.specs.declared.Progress.{Progress}
 use Rattle.search.specs.declared.Current.{Current}
 
--- what a walk has found: the best set's places are the first numbers of an array
-abbrev pub foundIn : Progress → List ℕ → Found
-foundIn p best = record { members = take (p .count) best; best = p .best .0; visits = p .visits; spent = p .spent }
+-- what a walk has found: the best set's places are the first numbers of an array, and its total is the file's less what it saves
+abbrev pub foundIn : Network → Progress → List ℕ → Found
+foundIn N p best = record { members = take (p .count) best; best = total N - p .saved .0; visits = p .visits; spent = p .spent }
 
 -- the defined visit and walk of a file
 abbrev pub visited : Network → List ℕ → Found → Found
@@ -36,9 +36,9 @@ tried N left S q f =
     let T = S ++ (q ∷ []) in
     elim (allowed N T) [ true ↦ extended N left T (q + 1) (visited N T f) | false ↦ f ]
 
--- the best total and the limit are such as a file can have, the best set has room, and the visits are within the limit
+-- the best set saves no more than the file's total, it has room, the visits are within the limit, and that is one a file can have
 pub record Counted (N : Network) (p : Progress) : Type 0 where
-  pub best : p .best .0 ≤ 7864320000000000
+  pub saved : p .saved .0 ≤ total N
   pub count : p .count ≤ 16
   pub visits : p .visits ≤ N .head .visits
   pub limit : N .head .visits ≤ 1000000000
@@ -48,7 +48,7 @@ pub record Standing (N : Network) (relations outlook set : List ℕ) (at : Curre
   pub setLong : length set ≡ 16
   pub chosen : Chosen N relations (take (at .size) set) (at .last)
   pub is-pending : Pending N outlook (take (at .size) set) (at .last) pending
-  pub total : at .total .0 ≡ setTotal N (take (at .size) set)
+  pub saved : at .saved .0 + setTotal N (take (at .size) set) ≡ total N
   pub cost : at .cost ≡ sum (map (λ p. placeAt N p .cost) (take (at .size) set))
   pub hours : at .hours ≡ sum (map (λ p. placeAt N p .hours) (take (at .size) set))
   pub affordable : at .cost ≤ N .head .money
@@ -65,20 +65,20 @@ pub record Trying (N : Network) (relations outlook set : List ℕ) (at : Current
 pub record Next (N : Network) (set : List ℕ) (at : Current) (place : ℕ) (next : Current) : Type 0 where
   pub size : next .size ≡ at .size + 1
   pub last : next .last ≡ place
-  pub total : next .total .0 ≡ setTotal N (take (at .size) set ++ (place ∷ []))
+  pub saved : next .saved .0 + setTotal N (take (at .size) set ++ (place ∷ [])) ≡ total N
   pub cost : next .cost ≡ sum (map (λ p. placeAt N p .cost) (take (at .size) set ++ (place ∷ [])))
   pub hours : next .hours ≡ sum (map (λ p. placeAt N p .hours) (take (at .size) set ++ (place ∷ [])))
 
--- a set that may get `left` of the places from `from` on: none, or the walk is spent, or none can do better than the best total
+-- a set that may get `left` of the places from `from` on: none, or the walk is spent, or none can save more than the best set
 abbrev pub Barren : Network → Bool → ℕ → ℕ → ℕ → ℕ → Type 0
-Barren N spent best total from left = (left ≡ 0) ⊎ ((length (N .places) < from) ⊎ ((spent ≡ true) ⊎ (best + mostSaved N left from ≤ total)))
+Barren N spent most saved from left = (left ≡ 0) ⊎ ((length (N .places) < from) ⊎ ((spent ≡ true) ⊎ (saved + mostSaved N left from ≤ most)))
 
--- some are left, the walk is not spent, and by the bound they may do better
-pub record Promising (N : Network) (spent : Bool) (best total from left : ℕ) : Type 0 where
+-- some are left, the walk is not spent, and by the bound they may save more
+pub record Promising (N : Network) (spent : Bool) (most saved from left : ℕ) : Type 0 where
   pub some : left ≡ 0 → ⊥
   pub high : from ≤ length (N .places)
   pub unspent : spent ≡ false
-  pub hope : total < best + mostSaved N left from
+  pub hope : most < saved + mostSaved N left from
 
 -- the set may get `left` more, and the places from `from` on are tried
 pub record Seeking (N : Network) (relations bounds outlook set : List ℕ) (at : Current) (pending from left : ℕ) (p : Progress) : Type 0 where
@@ -90,11 +90,11 @@ pub record Seeking (N : Network) (relations bounds outlook set : List ℕ) (at :
   pub few : at .size + left ≡ N .head .adds
 
 -- without the places before the next the walk finds the same, and the set may get the next, where that may do better than the best
-pub record Sought (N : Network) (S : List ℕ) (total from left : ℕ) (p : Progress) (next : ℕ) : Type 0 where
+pub record Sought (N : Network) (S : List ℕ) (saved from left : ℕ) (p : Progress) (next : ℕ) : Type 0 where
   pub low : from ≤ next
   pub high : next ≤ length (N .places) + 1
-  pub same : (f : Found) → f .spent ≡ p .spent → f .best ≡ p .best .0 → extended N left S next f ≡ extended N left S from f
-  pub fitting : Promising N (p .spent) (p .best .0) total next left → allowed N (S ++ (next ∷ [])) ≡ true
+  pub same : (f : Found) → f .spent ≡ p .spent → f .best ≡ total N - p .saved .0 → extended N left S next f ≡ extended N left S from f
+  pub fitting : Promising N (p .spent) (p .saved .0) saved next left → allowed N (S ++ (next ∷ [])) ≡ true
 
 -- the set may get `left` more of the places from `from` on
 pub record Extending (N : Network) (relations ends lists sums bounds outlook saved set : List ℕ) (at : Current) (from left : ℕ) : Type 0 where
@@ -111,7 +111,7 @@ pub record Extending (N : Network) (relations ends lists sums bounds outlook sav
 
 -- what a walk leaves: what it found, and the set, the outlook and the rows before the set's own as they were
 pub record Left (N : Network) (f : Found) (size : ℕ) (p : Progress) (outlook outlook' saved saved' set set' best' : List ℕ) : Type 0 where
-  pub found : foundIn p best' ≡ f
+  pub found : foundIn N p best' ≡ f
   pub counted : Counted N p
   pub bestLong : length best' ≡ 16
   pub setLong : length set' ≡ 16
@@ -121,7 +121,7 @@ pub record Left (N : Network) (f : Found) (size : ℕ) (p : Progress) (outlook o
   pub savedSame : SameUpTo (size * 195) saved saved'
 
 -- before the walk
-pub record Starting (N : Network) (relations ends lists sums bounds outlook saved set best : List ℕ) (whole : ℕ) : Type 0 where
+pub record Starting (N : Network) (relations ends lists sums bounds outlook saved set best : List ℕ) : Type 0 where
   pub tables : Tables N relations ends sums
   pub related : HoldsLists relations lists (length (N .places))
   pub table : HoldsBounds N bounds
@@ -130,4 +130,3 @@ pub record Starting (N : Network) (relations ends lists sums bounds outlook save
   pub savedLong : length saved ≡ 3120
   pub setLong : length set ≡ 16
   pub bestLong : length best ≡ 16
-  pub total : whole ≡ total N

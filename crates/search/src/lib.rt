@@ -7,6 +7,7 @@ ghost use mathlib.Core.List.{[], _∷_, _++_};
 ghost use Prim.Native.Nat.{_+_, _≤_};
 ghost use lib.Dec.{leb};
 ghost use lib.ListN.{length, take};
+ghost use Rattle.model.specs.Outage.{total as totalOf};
 ghost use Rattle.model.specs.Sets.{placeAt, allowed, setTotal};
 ghost use Rattle.model.specs.Walk.{search};
 ghost use Rattle.theory.specs.Reading.{Read};
@@ -19,19 +20,21 @@ ghost use Rattle.bounds.specs.Bounds.{HoldsBounds};
 ghost use Rattle.search.specs.Walking.{foundIn, visited, extended, Counted, Trying, Next, Barren, Promising, Seeking, Sought, Extending, Left, Starting};
 use amounts::Total;
 
-// How far a walk has come: the best total, how many members the best set has, the visits, and whether the walk is spent.
+// How far a walk has come: how much the best set saves of the file's total, how many members it has, the visits, and whether the
+// walk is spent.
 pub struct Progress {
-    pub best: Total,
+    pub saved: Total,
     pub count: usize,
     pub visits: u64,
     pub spent: bool,
 }
 
-// The set that a walk stands at: how many members it has, the last of them (0 for the empty set), its total, its cost and its hours.
+// The set that a walk stands at: how many members it has, the last of them (0 for the empty set), how much it saves of the file's
+// total, its cost and its hours.
 pub struct Current {
     pub size: usize,
     pub last: usize,
-    pub total: Total,
+    pub saved: Total,
     pub cost: u64,
     pub hours: u64,
 }
@@ -46,39 +49,39 @@ fn copy_set(set: &[u64; 16], size: usize, best: &mut [u64; 16])
     }
 }
 
-// A visit of a set is due. At the limit the walk is spent. Else the visit is counted, and the set is best if its total is smaller.
+// A visit of a set is due. At the limit the walk is spent. Else the visit is counted, and the set is best if it saves more.
 fn visit(
     net: &buffer::Net,
     set: &[u64; 16],
     size: usize,
-    total: Total,
+    saved: Total,
     best: &mut [u64; 16],
     progress: Progress,
 ) -> Progress
-    requires { ⌜ (length (now set) ≡ 16) × (length (now best) ≡ 16) × (size ≤ 16) × (total .0 ≡ setTotal (networkIn (now net)) (take size (now set))) × Counted (networkIn (now net)) progress ⌝ }
-    ensures { λ r. ⌜ (length (now (best .exit)) ≡ 16) × Counted (networkIn (now (net .entry))) r × (foundIn r (now (best .exit)) ≡ visited (networkIn (now (net .entry))) (take size (now (set .entry))) (foundIn progress (now (best .entry)))) ⌝ }
+    requires { ⌜ (length (now set) ≡ 16) × (length (now best) ≡ 16) × (size ≤ 16) × (saved .0 + setTotal (networkIn (now net)) (take size (now set)) ≡ totalOf (networkIn (now net))) × Counted (networkIn (now net)) progress ⌝ }
+    ensures { λ r. ⌜ (length (now (best .exit)) ≡ 16) × Counted (networkIn (now (net .entry))) r × (foundIn (networkIn (now (net .entry))) r (now (best .exit)) ≡ visited (networkIn (now (net .entry))) (take size (now (set .entry))) (foundIn (networkIn (now (net .entry))) progress (now (best .entry)))) ⌝ }
 {
-    let least = progress.best;
+    let most = progress.saved;
     if progress.visits == buffer::visits(net) {
         return Progress {
-            best: least,
+            saved: most,
             count: progress.count,
             visits: progress.visits,
             spent: true,
         };
     }
     let visits = progress.visits + 1;
-    if total.below(least) {
+    if most.below(saved) {
         copy_set(set, size, best);
         return Progress {
-            best: total,
+            saved,
             count: size,
             visits,
             spent: progress.spent,
         };
     }
     Progress {
-        best: least,
+        saved: most,
         count: progress.count,
         visits,
         spent: progress.spent,
@@ -154,7 +157,7 @@ fn with_place(
     ensures { λ r. ⌜ Next (networkIn (now (net .entry))) (now (set .entry)) current place r ⌝ }
 {
     let size = current.size;
-    let spared = prospects::fall(
+    let fall = prospects::fall(
         net,
         relations,
         ends,
@@ -168,24 +171,24 @@ fn with_place(
     Current {
         size: size + 1,
         last: place,
-        total: current.total.minus(spared),
+        saved: current.saved.plus(fall),
         cost: cost_with(net, current, place),
         hours: hours_with(net, current, place),
     }
 }
 
-// Whether a set with such a total is to be extended by places from `from` on: it may get `left`, some are left, the walk is not
+// Whether a set that saves so much is to be extended by places from `from` on: it may get `left`, some are left, the walk is not
 // spent, and by the bound they may do better than the best.
 fn goes_on(
     net: &buffer::Net,
     bounds: &[u64; 1105],
-    total: Total,
+    saved: Total,
     from: usize,
     left: usize,
     found: Progress,
 ) -> bool
-    requires { ⌜ Accepted (networkIn (now net)) × HoldsBounds (networkIn (now net)) (now bounds) × Counted (networkIn (now net)) found × (left ≤ 16) × (1 ≤ from) ⌝ }
-    ensures { λ r. ⌜ (r ≡ false → Barren (networkIn (now (net .entry))) (found .spent) (found .best .0) (total .0) from left) × (r ≡ true → Promising (networkIn (now (net .entry))) (found .spent) (found .best .0) (total .0) from left) ⌝ }
+    requires { ⌜ Accepted (networkIn (now net)) × HoldsBounds (networkIn (now net)) (now bounds) × Counted (networkIn (now net)) found × (saved .0 ≤ totalOf (networkIn (now net))) × (left ≤ 16) × (1 ≤ from) ⌝ }
+    ensures { λ r. ⌜ (r ≡ false → Barren (networkIn (now (net .entry))) (found .spent) (found .saved .0) (saved .0) from left) × (r ≡ true → Promising (networkIn (now (net .entry))) (found .spent) (found .saved .0) (saved .0) from left) ⌝ }
 {
     if left == 0 {
         return false;
@@ -196,22 +199,23 @@ fn goes_on(
     if found.spent {
         return false;
     }
-    total.number() < found.best.number() + bounds::most_saved(net, bounds, left, from)
+    let more = bounds::most_saved(net, bounds, left, from);
+    saved.can_pass(more, found.saved)
 }
 
 // Whether a set whose last member is `place` is to be extended, by `left` more places.
 fn goes_deeper(
     net: &buffer::Net,
     bounds: &[u64; 1105],
-    total: Total,
+    saved: Total,
     place: usize,
     left: usize,
     found: Progress,
 ) -> bool
-    requires { ⌜ Accepted (networkIn (now net)) × HoldsBounds (networkIn (now net)) (now bounds) × Counted (networkIn (now net)) found × (left ≤ 16) × (place ≤ 64) ⌝ }
-    ensures { λ r. ⌜ (r ≡ false → Barren (networkIn (now (net .entry))) (found .spent) (found .best .0) (total .0) (place + 1) left) ⌝ }
+    requires { ⌜ Accepted (networkIn (now net)) × HoldsBounds (networkIn (now net)) (now bounds) × Counted (networkIn (now net)) found × (saved .0 ≤ totalOf (networkIn (now net))) × (left ≤ 16) × (place ≤ 64) ⌝ }
+    ensures { λ r. ⌜ (r ≡ false → Barren (networkIn (now (net .entry))) (found .spent) (found .saved .0) (saved .0) (place + 1) left) ⌝ }
 {
-    goes_on(net, bounds, total, place + 1, left, found)
+    goes_on(net, bounds, saved, place + 1, left, found)
 }
 
 // The next place from `from` on that the set may get, unless the set is not to be extended from there on.
@@ -228,10 +232,10 @@ fn next_place(
     found: Progress,
 ) -> usize
     requires { ⌜ Seeking (networkIn (now net)) (now relations) (now bounds) (now outlook) (now set) current pending from left found ⌝ }
-    ensures { λ r. ⌜ Sought (networkIn (now (net .entry))) (take (current .size) (now (set .entry))) (current .total .0) from left found r ⌝ }
+    ensures { λ r. ⌜ Sought (networkIn (now (net .entry))) (take (current .size) (now (set .entry))) (current .saved .0) from left found r ⌝ }
 {
     let mut place = from;
-    while goes_on(net, bounds, current.total, place, left, found) {
+    while goes_on(net, bounds, current.saved, place, left, found) {
         if may_get(net, relations, outlook, set, current, pending, place) {
             return place;
         }
@@ -254,7 +258,7 @@ fn next_after(
     found: Progress,
 ) -> usize
     requires { ⌜ Seeking (networkIn (now net)) (now relations) (now bounds) (now outlook) (now set) current pending (place + 1) left found ⌝ }
-    ensures { λ r. ⌜ Sought (networkIn (now (net .entry))) (take (current .size) (now (set .entry))) (current .total .0) (place + 1) left found r ⌝ }
+    ensures { λ r. ⌜ Sought (networkIn (now (net .entry))) (take (current .size) (now (set .entry))) (current .saved .0) (place + 1) left found r ⌝ }
 {
     let from = place + 1;
     next_place(
@@ -289,7 +293,7 @@ fn extend(
     progress: Progress,
 ) -> Progress
     requires { ⌜ Extending (networkIn (now net)) (now relations) (now ends) (now lists) (now sums) (now bounds) (now outlook) (now saved) (now set) current from left × (length (now best) ≡ 16) × Counted (networkIn (now net)) progress ⌝ }
-    ensures { λ r. ⌜ Left (networkIn (now (net .entry))) (extended (networkIn (now (net .entry))) left (take (current .size) (now (set .entry))) from (foundIn progress (now (best .entry)))) (current .size) r (now (outlook .entry)) (now (outlook .exit)) (now (saved .entry)) (now (saved .exit)) (now (set .entry)) (now (set .exit)) (now (best .exit)) ⌝ }
+    ensures { λ r. ⌜ Left (networkIn (now (net .entry))) (extended (networkIn (now (net .entry))) left (take (current .size) (now (set .entry))) from (foundIn (networkIn (now (net .entry))) progress (now (best .entry)))) (current .size) r (now (outlook .entry)) (now (outlook .exit)) (now (saved .entry)) (now (saved .exit)) (now (set .entry)) (now (set .exit)) (now (best .exit)) ⌝ }
 {
     let size = current.size;
     let mut found = progress;
@@ -306,7 +310,7 @@ fn extend(
         left,
         found,
     );
-    while goes_on(net, bounds, current.total, place, left, found) {
+    while goes_on(net, bounds, current.saved, place, left, found) {
         let next = with_place(
             net,
             relations,
@@ -319,8 +323,8 @@ fn extend(
             place,
         );
         set[size] = place as u64;
-        found = visit(net, set, size + 1, next.total, best, found);
-        if goes_deeper(net, bounds, next.total, place, left - 1, found) {
+        found = visit(net, set, size + 1, next.saved, best, found);
+        if goes_deeper(net, bounds, next.saved, place, left - 1, found) {
             prospects::enter_once(
                 net,
                 relations,
@@ -369,7 +373,7 @@ fn extend(
     found
 }
 
-// The search: the empty set, whose total is the file's, is visited first, then it is extended by at most `adds` of the places.
+// The search: the empty set, which saves nothing, is visited first, then it is extended by at most `adds` of the places.
 pub fn walk(
     net: &buffer::Net,
     relations: &[u64; 4225],
@@ -381,18 +385,17 @@ pub fn walk(
     saved: &mut [u64; 3120],
     set: &mut [u64; 16],
     best: &mut [u64; 16],
-    total: Total,
 ) -> Progress
-    requires { ⌜ Starting (networkIn (now net)) (now relations) (now ends) (now lists) (now sums) (now bounds) (now outlook) (now saved) (now set) (now best) (total .0) ⌝ }
-    ensures { λ r. ⌜ (foundIn r (now (best .exit)) ≡ search (networkIn (now (net .entry)))) × (length (now (best .exit)) ≡ 16) × (r .count ≤ 16) ⌝ }
+    requires { ⌜ Starting (networkIn (now net)) (now relations) (now ends) (now lists) (now sums) (now bounds) (now outlook) (now saved) (now set) (now best) ⌝ }
+    ensures { λ r. ⌜ (foundIn (networkIn (now (net .entry))) r (now (best .exit)) ≡ search (networkIn (now (net .entry)))) × (length (now (best .exit)) ≡ 16) × (r .count ≤ 16) ⌝ }
 {
     let start = Progress {
-        best: total,
+        saved: Total::ZERO,
         count: 0,
         visits: 0,
         spent: false,
     };
-    let first = visit(net, set, 0, total, best, start);
+    let first = visit(net, set, 0, Total::ZERO, best, start);
     extend(
         net,
         relations,
@@ -407,7 +410,7 @@ pub fn walk(
         Current {
             size: 0,
             last: 0,
-            total,
+            saved: Total::ZERO,
             cost: 0,
             hours: 0,
         },

@@ -1,14 +1,14 @@
 use Prim.Native.Nat.{ℕ, _+_, _-_, _<_}
-use mathlib.Core.Path.{_≡_, sym, ap, _∙_}
+use mathlib.Core.Path.{_≡_}
 use mathlib.Core.Bool.{true}
 use mathlib.Core.Logic.{⊎-elim}
 use mathlib.Core.List.{[], _∷_, _++_}
 use native.Mathlib.Omega.{arith}
 use lib.ListN.{length, take}
-use Rattle.model.specs.Sets.{allowed, setTotal}
+use Rattle.model.specs.Sets.{allowed}
 use Rattle.buffer.specs.Buffer.{networkIn}
 use Rattle.search.specs.Walking.{foundIn, Promising}
-use Rattle.search.proofs.Extending.{few, places-few, Going, going-first, low, stopped-same, left-few, left-row, stopped-undone, seeking, going-sought, trying, some, room, set⁺-long, set⁺-is, on-barren, entering, extending, on-extended}
+use Rattle.search.proofs.Extending.{few, saves, saves-next, places-few, Going, going-first, low, stopped-same, left-few, left-row, stopped-undone, seeking, going-sought, trying, some, room, set⁺-long, set⁺-is, on-barren, entering, extending, on-extended}
 use borrow.Fn.Kinds.{In}
 use borrow.Fn.PlainCycle.{Measures, is, falls, and}
 use Rattle.search.proofs.extend.Reads as extend
@@ -41,8 +41,8 @@ extend-calls t = (next-place-reads.Asked, next-place-reads.Learnt, goes-on-reads
 -- the walk has come to a place, and the set may get it, where it may do better than the best
 abbrev extend-Inv-loop : extend-lts.InvT-loop
 extend-Inv-loop net relations ends lists sums bounds outlook₀ saved₀ set₀ best₀ current from left size found₀ pending₀ place₀ outlook saved set best found pending place =
-    Going (networkIn net) lists outlook₀ saved₀ set₀ current from left (foundIn found₀ best₀) place found pending outlook saved set best
-    × (Promising (networkIn net) (found .spent) (found .best .0) (current .total .0) place left → allowed (networkIn net) (take (current .size) set ++ (place ∷ [])) ≡ true)
+    Going (networkIn net) lists outlook₀ saved₀ set₀ current from left (foundIn (networkIn net) found₀ best₀) place found pending outlook saved set best
+    × (Promising (networkIn net) (found .spent) (found .saved .0) (current .saved .0) place left → allowed (networkIn net) (take (current .size) set ++ (place ∷ [])) ≡ true)
 
 abbrev extend-μ-loop : extend-lts.MeasureT-loop
 extend-μ-loop net relations ends lists sums bounds outlook₀ saved₀ set₀ best₀ current from left size found₀ pending₀ place₀ outlook saved set best found pending place =
@@ -57,7 +57,7 @@ extend-loop-holds t c = (going-sought (c .before .before .before .pre .1 .0) (go
 extend-goes-on-requires : (t : ℕ) → extend-lts.Need-goes-on-requires (extend-calls t) (extend-at t) extend.Post extend-Inv-loop extend-μ-loop
 extend-goes-on-requires t c κs =
     let x = c .before .before .before .before .pre .1 .0 in
-    (x .standing .chosen .accepted, x .table, c .loop .inv .0 .counted, few x, low x (c .loop .inv .0))
+    (x .standing .chosen .accepted, x .table, c .loop .inv .0 .counted, saves x, few x, low x (c .loop .inv .0))
 
 extend-with-place-requires : (t : ℕ) → extend-lts.Need-with-place-requires (extend-calls t) (extend-at t) extend.Post extend-Inv-loop extend-μ-loop
 extend-with-place-requires t c κs = let x = c .before .before .before .before .before .before .before .before .pre .1 .0 in (trying x (c .before .before .before .before .loop .inv .0) (c .before .before .before .goes-on .ensures .1 (c .before .before .if1 .taken)), x .coded, x .behind)
@@ -76,7 +76,7 @@ extend-visit-requires t c κs =
     let x = c .before .before .before .before .before .before .before .before .before .before .before .pre .1 .0 in
     let g = c .before .before .before .before .before .before .before .loop .inv .0 in
     let h = c .before .before .before .before .before .before .goes-on .ensures .1 (c .before .before .before .before .before .if1 .taken) in
-    (set⁺-long x g h, g .bestLong, omega (arith, room x g h), c .before .before .with-place .ensures .total ∙ ap (setTotal (networkIn (c .before .before .before .before .before .before .before .before .before .before .before .args .net .now))) (sym (set⁺-is x g h)), g .counted)
+    (set⁺-long x g h, g .bestLong, omega (arith, room x g h), rw (set⁺-is x g h) (c .before .before .with-place .ensures .saved), g .counted)
 
 extend-sub-goes-deeper : (t : ℕ) → extend-lts.Need-sub-goes-deeper (extend-calls t) (extend-at t) extend.Post extend-Inv-loop extend-μ-loop
 extend-sub-goes-deeper t c = some (c .before .before .before .before .before .before .before .before .before .before .before .before .pre .1 .0) (c .before .before .before .before .before .before .before .before .loop .inv .0) (c .before .before .before .before .before .before .before .goes-on .ensures .1 (c .before .before .before .before .before .before .if1 .taken))
@@ -84,7 +84,7 @@ extend-sub-goes-deeper t c = some (c .before .before .before .before .before .be
 extend-goes-deeper-requires : (t : ℕ) → extend-lts.Need-goes-deeper-requires (extend-calls t) (extend-at t) extend.Post extend-Inv-loop extend-μ-loop
 extend-goes-deeper-requires t c κs =
     let x = c .before .before .before .before .before .before .before .before .before .before .before .before .pre .1 .0 in
-    (x .standing .chosen .accepted, x .table, c .visit .ensures .1, omega (arith, few x), omega (arith, places-few x, c .before .before .before .before .before .before .before .goes-on .ensures .1 (c .before .before .before .before .before .before .if1 .taken) .high))
+    (x .standing .chosen .accepted, x .table, c .visit .ensures .1, saves-next (c .before .before .before .with-place .ensures), omega (arith, few x), omega (arith, places-few x, c .before .before .before .before .before .before .before .goes-on .ensures .1 (c .before .before .before .before .before .before .if1 .taken) .high))
 
 extend-enter-once-requires : (t : ℕ) → extend-lts.Need-enter-once-requires (extend-calls t) (extend-at t) extend.Post extend-Inv-loop extend-μ-loop
 extend-enter-once-requires t c κs =
@@ -108,7 +108,7 @@ extend-extend-requires t c κs =
 
 -- the set with the place is visited, and extended or not
 extend-on : (t : ℕ) (c : extend-lts.Joined2 (extend-calls t) (extend-at t) extend.Post extend-Inv-loop extend-μ-loop)
-    → Going (networkIn (c .before .before .before .before .before .before .before .before .before .before .before .before .before .before .args .net .now)) (c .before .before .before .before .before .before .before .before .before .before .before .before .before .before .args .lists .now) (c .before .before .before .before .before .before .before .before .before .before .before .before .before .before .args .outlook .now) (c .before .before .before .before .before .before .before .before .before .before .before .before .before .before .args .saved .now) (c .before .before .before .before .before .before .before .before .before .before .before .before .before .before .args .set .now) (c .before .before .before .before .before .before .before .before .before .before .before .before .before .before .args .current) (c .before .before .before .before .before .before .before .before .before .before .before .before .before .before .args .from) (c .before .before .before .before .before .before .before .before .before .before .before .before .before .before .args .left) (foundIn (c .before .before .before .before .before .before .before .before .before .before .before .before .before .before .args .progress) (c .before .before .before .before .before .before .before .before .before .before .before .before .before .before .args .best .now)) (c .before .before .before .before .before .before .before .before .before .before .loop .place + 1) (c .if2 .found) (c .if2 .pending) (c .if2 .outlook) (c .if2 .saved) (c .if2 .set) (c .if2 .best)
+    → Going (networkIn (c .before .before .before .before .before .before .before .before .before .before .before .before .before .before .args .net .now)) (c .before .before .before .before .before .before .before .before .before .before .before .before .before .before .args .lists .now) (c .before .before .before .before .before .before .before .before .before .before .before .before .before .before .args .outlook .now) (c .before .before .before .before .before .before .before .before .before .before .before .before .before .before .args .saved .now) (c .before .before .before .before .before .before .before .before .before .before .before .before .before .before .args .set .now) (c .before .before .before .before .before .before .before .before .before .before .before .before .before .before .args .current) (c .before .before .before .before .before .before .before .before .before .before .before .before .before .before .args .from) (c .before .before .before .before .before .before .before .before .before .before .before .before .before .before .args .left) (foundIn (networkIn (c .before .before .before .before .before .before .before .before .before .before .before .before .before .before .args .net .now)) (c .before .before .before .before .before .before .before .before .before .before .before .before .before .before .args .progress) (c .before .before .before .before .before .before .before .before .before .before .before .before .before .before .args .best .now)) (c .before .before .before .before .before .before .before .before .before .before .loop .place + 1) (c .if2 .found) (c .if2 .pending) (c .if2 .outlook) (c .if2 .saved) (c .if2 .set) (c .if2 .best)
 extend-on t c =
     let x = c .before .before .before .before .before .before .before .before .before .before .before .before .before .before .pre .1 .0 in
     let g = c .before .before .before .before .before .before .before .before .before .before .loop .inv .0 in

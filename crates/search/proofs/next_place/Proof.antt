@@ -3,7 +3,7 @@ use mathlib.Core.Path.{sym, _∙_}
 use native.Mathlib.Omega.{arith}
 use lib.ListN.{length, take}
 use Rattle.buffer.specs.Buffer.{networkIn}
-use Rattle.search.proofs.Seeking.{few, Passed, passed-none, positive, trying, passed-one, sought, sought-none}
+use Rattle.search.proofs.Seeking.{few, saves, Passed, passed-none, positive, trying, passed-one, sought, sought-none}
 use Rattle.search.proofs.next_place.Statement.{statement}
 use Rattle.search.proofs.next_place.Tie as tie
 
@@ -19,7 +19,7 @@ loop-holds c = passed-none (c .pre)
 goes-on-requires : tie.Need-goes-on-requires Inv-loop μ-loop
 goes-on-requires c κs =
     let x = c .before .pre in
-    (x .standing .chosen .accepted, x .table, x .counted, few x, positive x (c .loop .inv))
+    (x .standing .chosen .accepted, x .table, x .counted, saves x, few x, positive x (c .loop .inv))
 
 may-get-requires : tie.Need-may-get-requires Inv-loop μ-loop
 may-get-requires c κs = trying (c .before .before .before .pre) (c .before .before .loop .inv) (c .before .goes-on .ensures .1 (c .if1 .taken))

@@ -1,10 +1,9 @@
+use Prim.Native.Nat.{_≤_}
 use mathlib.Core.Path.{_≡_, sym, _∙_}
 use native.Mathlib.Omega.{arith}
 use lib.ListN.{take}
-use borrow.Author.Tests.{ltb-true}
-use Rattle.model.specs.Walk.{Found}
+use Rattle.model.specs.Outage.{total}
 use Rattle.buffer.specs.Buffer.{networkIn}
-use Rattle.search.specs.Walking.{foundIn}
 use Rattle.search.proofs.Visiting.{visit-spent, visit-better, visit-other}
 use borrow.Author.Needs.{needs}
 use Rattle.search.proofs.visit.Statement.{statement}
@@ -18,9 +17,8 @@ returns c =
     let d = c .before .before .before .before in
     let n = networkIn (d .args .net .now) in
     let S = take (d .args .size) (d .args .set .now) in
-    let f : Found = foundIn (d .args .progress) (d .args .best .now) in
     let k = d .pre .4 in
-    (d .pre .1, record { best = k .best; count = k .count; visits = k .visits; limit = k .limit }, visit-spent n S f (c .if1 .taken ∙ c .before .before .visits .ensures))
+    (d .pre .1, record { saved = k .saved; count = k .count; visits = k .visits; limit = k .limit }, visit-spent n S (d .args .progress) (d .args .best .now) (c .if1 .taken ∙ c .before .before .visits .ensures))
 
 add-visits : tie.Need-add-visits
 add-visits c = search needs
@@ -36,14 +34,13 @@ returns-2 c =
     let d = c .before .before .before .before .before .before .before .before .before in
     let n = networkIn (d .args .net .now) in
     let S = take (d .args .size) (d .args .set .now) in
-    let f : Found = foundIn (d .args .progress) (d .args .best .now) in
     let k = c .copy-set in
     let l : d .args .progress .visits ≡ n .head .visits → ⊥ = λ e. c .before .before .before .before .before .if1 .left (e ∙ sym (c .before .before .before .before .before .before .before .visits .ensures)) in
     let b = sym (c .before .before .before .below .ensures) ∙ c .before .before .if2 .taken in
-    let less = ltb-true (d .args .total .0) (d .args .progress .best .0) b in (
+    let most : d .args .saved .0 ≤ total n = omega (arith, d .pre .3) in (
       k .ensures .0,
-      record { best = omega arith; count = d .pre .2; visits = omega arith; limit = d .pre .4 .limit },
-      visit-better n S f (take (d .args .size) (k .last .1 .1 .0)) (d .args .total .0) (k .ensures .1) (d .pre .3) l b,
+      record { saved = most; count = d .pre .2; visits = omega arith; limit = d .pre .4 .limit },
+      visit-better n S (d .args .progress) (d .args .best .now) (d .pre .4) l (d .args .saved .0) (d .pre .3) (take (d .args .size) (k .last .1 .1 .0)) (k .ensures .1) b,
     )
 
 returns-3 : tie.Need-returns-3
@@ -51,9 +48,8 @@ returns-3 c =
     let d = c .before .before .before .before .before .before .before in
     let n = networkIn (d .args .net .now) in
     let S = take (d .args .size) (d .args .set .now) in
-    let f : Found = foundIn (d .args .progress) (d .args .best .now) in
     let l : d .args .progress .visits ≡ n .head .visits → ⊥ = λ e. c .before .before .before .if1 .left (e ∙ sym (c .before .before .before .before .before .visits .ensures)) in
-    (d .pre .1, record { best = d .pre .4 .best; count = d .pre .4 .count; visits = omega arith; limit = d .pre .4 .limit }, visit-other n S f (d .args .total .0) (d .pre .3) l (sym (c .before .below .ensures) ∙ c .if2 .left))
+    (d .pre .1, record { saved = d .pre .4 .saved; count = d .pre .4 .count; visits = omega arith; limit = d .pre .4 .limit }, visit-other n S (d .args .progress) (d .args .best .now) (d .pre .4) l (d .args .saved .0) (d .pre .3) (sym (c .before .below .ensures) ∙ c .if2 .left))
 
 pub visit-spec : {M : Type 1} → statement M
 visit-spec =

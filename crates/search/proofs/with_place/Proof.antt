@@ -1,5 +1,6 @@
 use mathlib.Core.Path.{refl}
 use native.Mathlib.Omega.{arith}
+use Rattle.theory.specs.Sizes.{read-sized, total-size}
 use Rattle.search.proofs.Trying.{later, cost-with, hours-with}
 use borrow.Author.Needs.{needs}
 use Rattle.search.proofs.with_place.Statement.{statement}
@@ -8,17 +9,10 @@ use Rattle.search.proofs.with_place.Tie as tie
 fall-requires : tie.Need-fall-requires
 fall-requires c κs = (later (c .pre .0), c .pre .1, c .pre .2)
 
-add-t12 : tie.Need-add-t12
-add-t12 c = search needs
-
-minus-requires : tie.Need-minus-requires
-minus-requires c κs = search needs
-
-cost-with-requires : tie.Need-cost-with-requires
-cost-with-requires c κs = search needs
-
-hours-with-requires : tie.Need-hours-with-requires
-hours-with-requires c κs = search needs
+plus-requires : tie.Need-plus-requires
+plus-requires c κs =
+    let d = c .before in
+    omega (arith, c .fall .ensures, d .pre .0 .standing .saved, total-size _ (read-sized _ (d .pre .0 .standing .chosen .accepted .read)))
 
 returns : tie.Need-returns
 returns c =
@@ -26,7 +20,7 @@ returns c =
     record {
       size = refl;
       last = refl;
-      total = omega (arith, c .before .before .minus .ensures, c .before .before .before .fall .ensures, x .standing .total);
+      saved = omega (arith, c .before .before .plus .ensures, c .before .before .before .fall .ensures, x .standing .saved);
       cost = cost-with x (c .before .cost-with .ensures);
       hours = hours-with x (c .hours-with .ensures);
     }
@@ -34,4 +28,4 @@ returns c =
 pub with-place-spec : {M : Type 1} → statement M
 with-place-spec =
     tie.close
-    (tie.spec fall-requires add-t12 minus-requires cost-with-requires hours-with-requires returns)
+    (tie.spec fall-requires (search needs) plus-requires (λ c κs. search needs) (λ c κs. search needs) returns)
