@@ -1,10 +1,11 @@
 -- Demand 3 of the defined search, for every accepted file.
-use Prim.Native.Nat.{ℕ}
+use Prim.Native.Nat.{ℕ, zero, suc, _≤_, _<_}
 use mathlib.Core.Path.{_≡_, refl, ap, subst}
 use mathlib.Core.Bool.{false, not}
 use mathlib.Core.List.{List, Sublistᴰ, Sublistᴰ·slnil, Sublistᴰ·cons, Sublistᴰ·cons-cons, List·Memᴰ, List·Memᴰ·head, List·Memᴰ·tail}
 use native.Mathlib.Omega.{arith}
-use lib.ListN.{length}
+use lib.ListN.{length, getD, take}
+use lib.Seq.{length-take-le, getD-take}
 use lib.Dec.{eqb}
 use borrow.Author.Tests.{not-true, not-false}
 use Rattle.model.specs.Answer.{given}
@@ -45,6 +46,20 @@ valid-part : (N : Network) {S places : List ℕ} → Sublistᴰ S places → ((p
 valid-part N Sublistᴰ·slnil h = tt
 valid-part N (Sublistᴰ·cons s) h = valid-part N s (λ p m. h p (List·Memᴰ·tail m))
 valid-part N (Sublistᴰ·cons-cons {a = p} e s) h = (h p (List·Memᴰ·head e), valid-part N s (λ q m. h q (List·Memᴰ·tail m)))
+
+-- what every element of a list has, every element of a part of it has
+part-has : (P : ℕ → Type 0) {S xs : List ℕ} → Sublistᴰ S xs → ((p : ℕ) → List·Memᴰ p xs → P p) → (i : ℕ) → i < length S → P (getD S i 0)
+part-has P Sublistᴰ·slnil h i k = absurd (omega arith)
+part-has P (Sublistᴰ·cons s) h i k = part-has P s (λ p m. h p (List·Memᴰ·tail m)) i k
+part-has P (Sublistᴰ·cons-cons {a = p} e s) h zero k = h p (List·Memᴰ·head e)
+part-has P (Sublistᴰ·cons-cons e s) h (suc i) k = part-has P s (λ p m. h p (List·Memᴰ·tail m)) i (omega arith)
+
+-- the members of a set, the first numbers of a list, are places
+pub member-place : (N : Network) (xs : List ℕ) (count : ℕ) → count ≤ length xs → Sublistᴰ (take count xs) (placeNumbers N) → (i : ℕ) → i < count → (1 ≤ getD xs i 0) × (getD xs i 0 ≤ length (N .places))
+unfolding placeNumbers
+member-place N xs count l s i h =
+    subst (λ p. (1 ≤ p) × (p ≤ length (N .places))) (getD-take count xs i 0 h)
+    (part-has (λ p. (1 ≤ p) × (p ≤ length (N .places))) s (λ p m. let r = numbers-in p 1 (length (N .places)) m in (r .0, omega (arith, r .1))) i (omega (arith, length-take-le count xs l)))
 
 pub fine : {N : Network} {S : List ℕ} → AllowedSet N S → Fine (λ S. allowed N S) (placeNumbers N) S
 fine x = (x .places, x .allows)
