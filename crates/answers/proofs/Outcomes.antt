@@ -1,20 +1,17 @@
 -- The answer to what a search found.
 use Prim.Native.Nat.{ℕ, _≤_}
 use mathlib.Core.Path.{_≡_, sym}
-use mathlib.Core.Bool.{true, false}
+use mathlib.Core.Bool.{Bool, true, false}
 use mathlib.Core.List.{List}
-use lib.ListN.{take}
 use Rattle.model.specs.Answer.{given}
 use Rattle.model.specs.declared.SearchAnswer.{SearchAnswer}
-use Rattle.search.specs.Walking.{foundIn}
-use Rattle.search.specs.declared.Progress.{Progress}
-use Rattle.answers.specs.Found.{foundBy, AtMost16}
+use Rattle.answers.specs.Found.{found, foundBy, AtMost16}
 
-module _ (p : Progress) (few : p .count ≤ 16) {total : ℕ} (t : total ≡ p .best .0) where
-  pub answer-spent : p .spent ≡ true → ((best : List ℕ) → foundBy (SearchAnswer.Spent (p .count) total (p .visits)) best ≡ given (foundIn p best)) × AtMost16 (SearchAnswer.Spent (p .count) total (p .visits))
+module _ (count visits : ℕ) (spent : Bool) (few : count ≤ 16) {number total : ℕ} (t : number ≡ total) where
+  pub answer-spent : spent ≡ true → ((best : List ℕ) → foundBy (SearchAnswer.Spent count number visits) best ≡ given (found count total visits spent best)) × AtMost16 (SearchAnswer.Spent count number visits)
   unfolding foundBy AtMost16
-  answer-spent e = (λ best. λ i. given (record { members = take (p .count) best; best = t i; visits = p .visits; spent = sym e i }), few)
+  answer-spent e = (λ best. λ i. given (found count (t i) visits (sym e i) best), few)
 
-  pub answer-finished : p .spent ≡ false → ((best : List ℕ) → foundBy (SearchAnswer.Finished (p .count) total (p .visits)) best ≡ given (foundIn p best)) × AtMost16 (SearchAnswer.Finished (p .count) total (p .visits))
+  pub answer-finished : spent ≡ false → ((best : List ℕ) → foundBy (SearchAnswer.Finished count number visits) best ≡ given (found count total visits spent best)) × AtMost16 (SearchAnswer.Finished count number visits)
   unfolding foundBy AtMost16
-  answer-finished e = (λ best. λ i. given (record { members = take (p .count) best; best = t i; visits = p .visits; spent = sym e i }), few)
+  answer-finished e = (λ best. λ i. given (found count (t i) visits (sym e i) best), few)

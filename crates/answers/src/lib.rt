@@ -8,10 +8,9 @@ ghost use Prim.Native.Nat.{ℕ, _+_, _*_, _≤_, _<_};
 ghost use lib.ListN.{length, take, drop};
 ghost use Rattle.model.specs.Answer.{given};
 ghost use Rattle.buffer.specs.Buffer.{networkIn};
-ghost use Rattle.search.specs.Walking.{foundIn};
-ghost use Rattle.answers.specs.Found.{foundBy, AtMost16};
+ghost use Rattle.answers.specs.Found.{found, foundBy, AtMost16};
+use amounts::Total;
 use model::SearchAnswer;
-use search::Progress;
 
 // Whether a number is a line's.
 pub fn is_line(net: &buffer::Net, line: u64) -> bool
@@ -30,23 +29,23 @@ pub fn put_numbers(list: &[u64], count: usize, lent: &mut [u64])
     }
 }
 
-// The answer to what a search found.
-pub fn found_answer(found: Progress) -> SearchAnswer
-    requires { ⌜ found .count ≤ 16 ⌝ }
-    ensures { λ r. ⌜ ((best : List ℕ) → foundBy r best ≡ given (foundIn found best)) × AtMost16 r ⌝ }
+// The answer to what a search found: how many members the best set has, its total, the visits, and whether the search is spent.
+pub fn found_answer(count: usize, total: Total, visits: u64, spent: bool) -> SearchAnswer
+    requires { ⌜ count ≤ 16 ⌝ }
+    ensures { λ r. ⌜ ((best : List ℕ) → foundBy r best ≡ given (found count (total .0) visits spent best)) × AtMost16 r ⌝ }
 {
-    let total = found.best.number();
-    if found.spent {
+    let number = total.number();
+    if spent {
         return SearchAnswer::Spent {
-            members: found.count,
-            total,
-            visits: found.visits,
+            members: count,
+            total: number,
+            visits,
         };
     }
     SearchAnswer::Finished {
-        members: found.count,
-        total,
-        visits: found.visits,
+        members: count,
+        total: number,
+        visits,
     }
 }
 

@@ -9,14 +9,14 @@ use Rattle.model.specs.Walk.{Found, search}
 use Rattle.model.specs.declared.CheckAnswer.{CheckAnswer}
 use Rattle.model.specs.declared.SearchAnswer.{SearchAnswer}
 use Rattle.buffer.specs.Buffer.{networkIn}
-use Rattle.search.specs.Walking.{foundIn}
-use Rattle.search.specs.declared.Progress.{Progress}
+use Rattle.planning.specs.Planned.{planFound}
+use Rattle.planning.specs.declared.Plan.{Plan}
 use Rattle.loading.specs.Loading.{before, loaded}
 use Rattle.answers.specs.Found.{fileFound, foundBy, AtMost16}
 use Rattle.loading.proofs.Loads.{answered, same-answer}
 
 -- what was found, with its total as a number
-pub found-is : (p : Progress) (best : List ℕ) {total : ℕ} → total ≡ p .best .0 → _≡_ {A = Found} (record { members = take (p .count) best; best = total; visits = p .visits; spent = p .spent }) (foundIn p best)
+pub found-is : (p : Plan) (best : List ℕ) {total : ℕ} → total ≡ p .total .0 → _≡_ {A = Found} (record { members = take (p .count) best; best = total; visits = p .visits; spent = p .spent }) (planFound p best)
 found-is p best t = λ i. record { members = take (p .count) best; best = t i; visits = p .visits; spent = p .spent }
 
 module _ (file b : List ℕ) (r : CheckAnswer) (h : loaded r b ≡ accepted file) where
@@ -24,6 +24,6 @@ module _ (file b : List ℕ) (r : CheckAnswer) (h : loaded r b ≡ accepted file
   unfolding foundBy AtMost16 before
   found-refused best e = (answered file b (λ N. given (search N)) (CheckAnswer.Refused _ _) (same-answer file b r h e), tt)
 
-  pub found-given : (a : SearchAnswer) (p : Progress) (best : List ℕ) → r ≡ CheckAnswer.Accepted → foundBy a best ≡ given (foundIn p best) → foundIn p best ≡ search (networkIn b) → foundBy a best ≡ fileFound file
+  pub found-given : (a : SearchAnswer) (p : Plan) (best : List ℕ) → r ≡ CheckAnswer.Accepted → foundBy a best ≡ given (planFound p best) → planFound p best ≡ search (networkIn b) → foundBy a best ≡ fileFound file
   unfolding before
   found-given a p best e f s = f ∙ ap (λ x. given x) s ∙ answered file b (λ N. given (search N)) CheckAnswer.Accepted (same-answer file b r h e)

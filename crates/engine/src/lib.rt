@@ -107,7 +107,7 @@ fn load_search(file: &[u8], best: &mut [u64; 16]) -> SearchAnswer
                 &order,
                 best,
             );
-            answers::found_answer(found)
+            answers::found_answer(found.count, found.total, found.visits, found.spent)
         }
     }
 }
@@ -157,14 +157,14 @@ fn report_network(
     loading::line_impacts(net, sides, feeders, order, &sums, &mut impacts);
     let total = outage::total_of(net, &impacts);
     let mut best = [0u64; 16];
-    let found = planning::best_set(net, sides, feeders, order, &sums, total, &mut best);
+    let found = planning::best_set(net, sides, feeders, order, &sums, &mut best);
     report::write_report(
         net,
         &impacts,
         total.number(),
         &best,
         found.count,
-        found.best.number(),
+        found.total.number(),
         found.visits,
         found.spent,
         text,

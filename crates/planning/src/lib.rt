@@ -1,12 +1,16 @@
-// The search of an accepted network: the tables that it reads are prepared, then the sets of places are walked.
+// The search of an accepted network: the tables that it reads are prepared, the sets of places are walked, and the best set's total
+// is that of the network with its breakers.
 ghost use mathlib.Core.Path.{_≡_};
-ghost use mathlib.Core.List.{[]};
+ghost use mathlib.Core.List.{[], Sublistᴰ};
 ghost use Prim.Native.Nat.{_≤_};
-ghost use lib.ListN.{length};
+ghost use lib.ListN.{length, take};
 ghost use Rattle.buffer.specs.Buffer.{networkIn};
+ghost use Rattle.buffer.specs.Fits.{EndThere};
+ghost use Rattle.network_changes.specs.Changed.{withState};
+ghost use Rattle.theory.specs.Reading.{Read};
 ghost use Rattle.theory.specs.Best.{Accepted};
 ghost use Rattle.outage.specs.Held.{HoldsCustomers};
-ghost use Rattle.model.specs.Outage.{total as totalOf};
+ghost use Rattle.model.specs.Sets.{placeNumbers, withBreakers, setTotal};
 ghost use Rattle.model.specs.Walk.{search};
 ghost use Rattle.prospects.specs.Chosen.{Tables};
 ghost use Rattle.search.specs.Walking.{foundIn};
@@ -17,8 +21,17 @@ ghost use Rattle.loading.specs.Loading.{Prepared};
 ghost use Rattle.relations.specs.Related.{HoldsRelations};
 ghost use Rattle.paths.specs.Held.{HoldsEnds};
 ghost use Rattle.relations.specs.Lists.{HoldsLists};
+ghost use Rattle.planning.specs.Planned.{planFound};
 use amounts::Total;
 use search::Progress;
+
+// What a search found: the best set's total, how many members it has, the visits, and whether the search is spent.
+pub struct Plan {
+    pub total: Total,
+    pub count: usize,
+    pub visits: u64,
+    pub spent: bool,
+}
 
 // Room for a number of each two places.
 fn relations_space() -> [u64; 4225] {
@@ -101,19 +114,18 @@ fn network_bounds(
     bounds::fill_bounds(&savings, buffer::place_count(net), bounds);
 }
 
-// The search of an accepted network, with the customers behind each line and its total: what it found, with the best set's places
+// The walk over the sets of an accepted network, with the customers behind each line: how far it came, with the best set's places
 // at the start of `best`.
-pub fn best_set(
+fn walk_sets(
     net: &buffer::Net,
     sides: &[u64; 768],
     feeders: &[u64; 768],
     order: &[u64; 768],
     sums: &[u64; 768],
-    total: Total,
     best: &mut [u64; 16],
 ) -> Progress
-    requires { ⌜ Accepted (networkIn (now net)) × Outwards (networkIn (now net)) (now sides) (now feeders) (now order) × HoldsCustomers (networkIn (now net)) (now sums) × (total .0 ≡ totalOf (networkIn (now net))) ⌝ }
-    ensures { λ r. ⌜ (foundIn r (now (best .exit)) ≡ search (networkIn (now (net .entry)))) × (length (now (best .exit)) ≡ 16) × (r .count ≤ 16) ⌝ }
+    requires { ⌜ Accepted (networkIn (now net)) × Outwards (networkIn (now net)) (now sides) (now feeders) (now order) × HoldsCustomers (networkIn (now net)) (now sums) ⌝ }
+    ensures { λ r. ⌜ (foundIn (networkIn (now (net .entry))) r (now (best .exit)) ≡ search (networkIn (now (net .entry)))) × (length (now (best .exit)) ≡ 16) × (r .count ≤ 16) ⌝ }
 {
     let mut relations = relations_space();
     let mut lists = relations_space();
@@ -145,8 +157,73 @@ pub fn best_set(
         &mut saved,
         &mut set,
         best,
-        total,
     )
+}
+
+// Adds a breaker at an end, 1 or 2, of a line.
+fn add_breaker(net: &mut buffer::Net, line: usize, side: usize)
+    requires { ⌜ EndThere (now net) line side ⌝ }
+    ensures { λ _. ⌜ networkIn (now (net .exit)) ≡ withState (networkIn (now (net .entry))) line side 1 ⌝ }
+{
+    network_changes::set_end_state(net, line, side, 1);
+}
+
+// Adds a breaker at each of the first `count` places of a set.
+fn add_breakers(net: &mut buffer::Net, set: &[u64; 16], count: usize)
+    requires { ⌜ Read (networkIn (now net)) × (length (now set) ≡ 16) × (count ≤ 16) × Sublistᴰ (take count (now set)) (placeNumbers (networkIn (now net))) ⌝ }
+    ensures { λ _. ⌜ networkIn (now (net .exit)) ≡ withBreakers (networkIn (now (net .entry))) (take count (now (set .entry))) ⌝ }
+{
+    for i in 0..count {
+        let place = set[i] as usize;
+        let line = buffer::place_line(net, place);
+        let side = buffer::place_side(net, place);
+        add_breaker(net, line, side);
+    }
+}
+
+// The total of a set: that of the network with its breakers.
+fn total_with(
+    net: &buffer::Net,
+    sides: &[u64; 768],
+    feeders: &[u64; 768],
+    order: &[u64; 768],
+    sums: &[u64; 768],
+    set: &[u64; 16],
+    count: usize,
+) -> Total
+    requires { ⌜ Accepted (networkIn (now net)) × Outwards (networkIn (now net)) (now sides) (now feeders) (now order) × HoldsCustomers (networkIn (now net)) (now sums) × (length (now set) ≡ 16) × (count ≤ 16) × Sublistᴰ (take count (now set)) (placeNumbers (networkIn (now net))) ⌝ }
+    ensures { λ r. ⌜ r .0 ≡ setTotal (networkIn (now (net .entry))) (take count (now (set .entry))) ⌝ }
+{
+    let mut changed = *net;
+    add_breakers(&mut changed, set, count);
+    let mut trips = loading::lines_space();
+    outage::trips(&changed, sides, feeders, order, &mut trips);
+    let mut impacts = loading::lines_space();
+    outage::impacts(&changed, &trips, sums, &mut impacts);
+    outage::total_of(&changed, &impacts)
+}
+
+// The search of an accepted network, with the customers behind each line: what it found, with the best set's places at the start of
+// `best`.
+pub fn best_set(
+    net: &buffer::Net,
+    sides: &[u64; 768],
+    feeders: &[u64; 768],
+    order: &[u64; 768],
+    sums: &[u64; 768],
+    best: &mut [u64; 16],
+) -> Plan
+    requires { ⌜ Accepted (networkIn (now net)) × Outwards (networkIn (now net)) (now sides) (now feeders) (now order) × HoldsCustomers (networkIn (now net)) (now sums) ⌝ }
+    ensures { λ r. ⌜ (planFound r (now (best .exit)) ≡ search (networkIn (now (net .entry)))) × (length (now (best .exit)) ≡ 16) × (r .count ≤ 16) ⌝ }
+{
+    let found = walk_sets(net, sides, feeders, order, sums, best);
+    let total = total_with(net, sides, feeders, order, sums, best, found.count);
+    Plan {
+        total,
+        count: found.count,
+        visits: found.visits,
+        spent: found.spent,
+    }
 }
 
 // The search of an accepted network, from what is prepared of it.
@@ -158,14 +235,11 @@ pub fn search_network(
     feeders: &[u64; 768],
     order: &[u64; 768],
     best: &mut [u64; 16],
-) -> Progress
+) -> Plan
     requires { ⌜ Accepted (networkIn (now net)) × Prepared (networkIn (now net)) (now chains) (now nexts) (now sides) (now feeders) (now order) ⌝ }
-    ensures { λ r. ⌜ (foundIn r (now (best .exit)) ≡ search (networkIn (now (net .entry)))) × (length (now (best .exit)) ≡ 16) × (r .count ≤ 16) ⌝ }
+    ensures { λ r. ⌜ (planFound r (now (best .exit)) ≡ search (networkIn (now (net .entry)))) × (length (now (best .exit)) ≡ 16) × (r .count ≤ 16) ⌝ }
 {
     let mut sums = loading::lines_space();
     outage::customers_behind(net, chains, nexts, &mut sums);
-    let mut impacts = loading::lines_space();
-    loading::line_impacts(net, sides, feeders, order, &sums, &mut impacts);
-    let total = outage::total_of(net, &impacts);
-    best_set(net, sides, feeders, order, &sums, total, best)
+    best_set(net, sides, feeders, order, &sums, best)
 }
