@@ -1,7 +1,7 @@
 // Weights, customers and outage totals as types of their own. A weight belongs to a line and a customer count to a station;
 // only their product is an outage amount.
 ghost use mathlib.Core.Path.{_≡_};
-ghost use Prim.Native.Nat.{_+_, _*_, _-_, _^_, _≤_, _<_};
+ghost use Prim.Native.Nat.{_+_, _*_, _^_, _<_};
 ghost use lib.Dec.{ltb};
 
 // A line's weight, in millionths of a failure a year.
@@ -10,7 +10,7 @@ pub struct Weight(u64);
 // A number of customers.
 pub struct Customers(u64);
 
-// An outage amount, or a sum of such amounts. The field is private: nothing but `Total::ZERO`, `times`, `plus` and `minus` makes one.
+// An outage amount, or a sum of such amounts. The field is private: nothing but `Total::ZERO`, `times` and `plus` makes one.
 pub struct Total(u64);
 
 impl Weight {
@@ -52,14 +52,6 @@ impl Total {
         ensures { λ r. ⌜ r .0 ≡ self .0 + amount .0 ⌝ }
     {
         Total(self.0 + amount.0)
-    }
-
-    // The total less an outage amount.
-    pub fn minus(self, amount: Total) -> Total
-        requires { ⌜ amount .0 ≤ self .0 ⌝ }
-        ensures { λ r. ⌜ r .0 ≡ self .0 - amount .0 ⌝ }
-    {
-        Total(self.0 - amount.0)
     }
 
     // Whether this total is smaller than another.

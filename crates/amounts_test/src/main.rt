@@ -27,6 +27,16 @@ fn show_below(a: Total, b: Total) {
     }
 }
 
+fn show_can_pass(a: Total, more: u64, b: Total)
+    requires { ⌜ a .0 + more < 2 ^ 64 ⌝ }
+{
+    if a.can_pass(more, b) {
+        io::write_all(1, b"1\n");
+    } else {
+        io::write_all(1, b"0\n");
+    }
+}
+
 fn main() {
     let first = with_line(Total::ZERO, 2, 60);
     let second = with_line(first, 3, 60);
@@ -39,4 +49,7 @@ fn main() {
     show_below(second, first);
     show_below(third, third);
     show_below(Total::ZERO, first);
+    show_can_pass(first, 179, second);
+    show_can_pass(first, 180, second);
+    show_can_pass(first, 181, second);
 }
