@@ -157,7 +157,7 @@ fn report_network(
     loading::line_impacts(net, sides, feeders, order, &sums, &mut impacts);
     let total = outage::total_of(net, &impacts);
     let mut best = [0u64; 16];
-    let found = planning::best_set(net, sides, feeders, order, &sums, &mut best);
+    let found = planning::best_plan(net, sides, feeders, order, &sums, &mut best);
     report::write_report(
         net,
         &impacts,

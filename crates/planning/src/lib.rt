@@ -116,7 +116,7 @@ fn network_bounds(
 
 // The walk over the sets of an accepted network, with the customers behind each line: how far it came, with the best set's places
 // at the start of `best`.
-fn walk_sets(
+fn best_set(
     net: &buffer::Net,
     sides: &[u64; 768],
     feeders: &[u64; 768],
@@ -205,7 +205,7 @@ fn total_with(
 
 // The search of an accepted network, with the customers behind each line: what it found, with the best set's places at the start of
 // `best`.
-pub fn best_set(
+pub fn best_plan(
     net: &buffer::Net,
     sides: &[u64; 768],
     feeders: &[u64; 768],
@@ -216,7 +216,7 @@ pub fn best_set(
     requires { ⌜ Accepted (networkIn (now net)) × Outwards (networkIn (now net)) (now sides) (now feeders) (now order) × HoldsCustomers (networkIn (now net)) (now sums) ⌝ }
     ensures { λ r. ⌜ (planFound r (now (best .exit)) ≡ search (networkIn (now (net .entry)))) × (length (now (best .exit)) ≡ 16) × (r .count ≤ 16) ⌝ }
 {
-    let found = walk_sets(net, sides, feeders, order, sums, best);
+    let found = best_set(net, sides, feeders, order, sums, best);
     let total = total_with(net, sides, feeders, order, sums, best, found.count);
     Plan {
         total,
@@ -241,5 +241,5 @@ pub fn search_network(
 {
     let mut sums = loading::lines_space();
     outage::customers_behind(net, chains, nexts, &mut sums);
-    best_set(net, sides, feeders, order, &sums, best)
+    best_plan(net, sides, feeders, order, &sums, best)
 }

@@ -19,8 +19,8 @@ line-impacts-requires c κs = search needs
 total-of-requires : tie.Need-total-of-requires
 total-of-requires c κs = search needs
 
-best-set-requires : tie.Need-best-set-requires
-best-set-requires c κs = search needs
+best-plan-requires : tie.Need-best-plan-requires
+best-plan-requires c κs = search needs
 
 number-requires : tie.Need-number-requires
 number-requires c κs = search needs
@@ -30,7 +30,7 @@ number-requires-2 c κs = search needs
 
 write-report-requires : tie.Need-write-report-requires
 write-report-requires c κs =
-    let w = c .before .before .before .before .before .best-set in
+    let w = c .before .before .before .before .before .best-plan in
     let t = c .before .before .before .before .before .before .before .before .total-of in
     let a = c .before .before .before .before .before .before .before .before .before .before .before .before .before .before .before .before .before .before in (
       record {
@@ -58,7 +58,7 @@ report-network-spec =
     lines-space-requires-2
     line-impacts-requires
     total-of-requires
-    best-set-requires
+    best-plan-requires
     number-requires
     number-requires-2
     write-report-requires
