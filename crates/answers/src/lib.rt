@@ -14,7 +14,8 @@ use model::SearchAnswer;
 
 // Whether a number is a line's.
 pub fn is_line(net: &buffer::Net, line: u64) -> bool
-    ensures { λ r. ⌜ (r ≡ true → (1 ≤ line) × (line ≤ length (networkIn (now (net .entry)) .lines))) × (r ≡ false → (line < 1) ⊎ (length (networkIn (now (net .entry)) .lines) < line)) ⌝ }
+    ensures { λ r. ⌜ (r ≡ true → (1 ≤ line) × (line ≤ length (networkIn (now (net .entry)) .lines)))
+        × (r ≡ false → (line < 1) ⊎ (length (networkIn (now (net .entry)) .lines) < line)) ⌝ }
 {
     1 <= line && line <= buffer::line_count(net) as u64
 }

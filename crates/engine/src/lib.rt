@@ -9,6 +9,8 @@ ghost use Rattle.model.specs.Demand.{Demand3};
 ghost use Rattle.theory.specs.Best.{Accepted};
 ghost use Rattle.model.specs.Text.{reportText};
 ghost use Rattle.model.specs.Segments.{breakerEnds, segmentTable, BreakerByBreaker};
+ghost use Rattle.tree.specs.Linked.{Linked};
+ghost use Rattle.paths.specs.Held.{HoldsTrips};
 ghost use Rattle.loading.specs.Loading.{Prepared};
 ghost use Rattle.answers.specs.Found.{fileFound, foundBy, AtMost16};
 use model::CheckAnswer;
@@ -25,9 +27,11 @@ pub fn check(file: &[u8]) -> CheckAnswer
     let mut net = loading::net_space();
     let mut chains = loading::stations_space();
     let mut nexts = loading::nexts_space();
-    let mut sides = loading::lines_space();
-    let mut feeders = loading::lines_space();
-    let mut order = loading::lines_space();
+    let mut sides = paths::lines_space();
+    let mut feeders = paths::lines_space();
+    let mut order = paths::lines_space();
+    let mut trips = paths::lines_space();
+    let mut counts = paths::lines_space();
     loading::load(
         file,
         &mut net,
@@ -36,6 +40,8 @@ pub fn check(file: &[u8]) -> CheckAnswer
         &mut sides,
         &mut feeders,
         &mut order,
+        &mut trips,
+        &mut counts,
     )
 }
 
@@ -44,7 +50,7 @@ pub fn impact(file: &[u8], line: u64) -> ImpactAnswer
     ensures { λ r. ⌜ impactSays r ≡ impactAnswered (now (file .entry)) line ⌝ }
 {
     let mut net = loading::net_space();
-    let mut impacts = loading::lines_space();
+    let mut impacts = paths::lines_space();
     match loading::load_impacts(file, &mut net, &mut impacts) {
         CheckAnswer::Refused { number, record } => ImpactAnswer::Refused { number, record },
         CheckAnswer::Accepted => {
@@ -65,7 +71,7 @@ pub fn total(file: &[u8]) -> TotalAnswer
     ensures { λ r. ⌜ totalSays r ≡ totalled (now (file .entry)) ⌝ }
 {
     let mut net = loading::net_space();
-    let mut impacts = loading::lines_space();
+    let mut impacts = paths::lines_space();
     match loading::load_impacts(file, &mut net, &mut impacts) {
         CheckAnswer::Refused { number, record } => TotalAnswer::Refused { number, record },
         CheckAnswer::Accepted => {
@@ -79,14 +85,17 @@ pub fn total(file: &[u8]) -> TotalAnswer
 // Reads, checks and searches a file. Where it is accepted, the best set's places are left at the start of `best`.
 fn load_search(file: &[u8], best: &mut [u64; 16]) -> SearchAnswer
     requires { ⌜ length (now best) ≡ 16 ⌝ }
-    ensures { λ r. ⌜ (foundBy r (now (best .exit)) ≡ fileFound (now (file .entry))) × AtMost16 r × (length (now (best .exit)) ≡ 16) ⌝ }
+    ensures { λ r. ⌜ (foundBy r (now (best .exit)) ≡ fileFound (now (file .entry))) × AtMost16 r
+        × (length (now (best .exit)) ≡ 16) ⌝ }
 {
     let mut net = loading::net_space();
     let mut chains = loading::stations_space();
     let mut nexts = loading::nexts_space();
-    let mut sides = loading::lines_space();
-    let mut feeders = loading::lines_space();
-    let mut order = loading::lines_space();
+    let mut sides = paths::lines_space();
+    let mut feeders = paths::lines_space();
+    let mut order = paths::lines_space();
+    let mut trips = paths::lines_space();
+    let mut counts = paths::lines_space();
     match loading::load(
         file,
         &mut net,
@@ -95,6 +104,8 @@ fn load_search(file: &[u8], best: &mut [u64; 16]) -> SearchAnswer
         &mut sides,
         &mut feeders,
         &mut order,
+        &mut trips,
+        &mut counts,
     ) {
         CheckAnswer::Refused { number, record } => SearchAnswer::Refused { number, record },
         CheckAnswer::Accepted => {
@@ -105,6 +116,8 @@ fn load_search(file: &[u8], best: &mut [u64; 16]) -> SearchAnswer
                 &sides,
                 &feeders,
                 &order,
+                &trips,
+                &counts,
                 best,
             );
             answers::found_answer(found.count, found.total, found.visits, found.spent)
@@ -146,18 +159,23 @@ fn report_network(
     sides: &[u64; 768],
     feeders: &[u64; 768],
     order: &[u64; 768],
+    trips: &[u64; 768],
+    counts: &[u64; 768],
     text: &mut [u8],
 ) -> usize
-    requires { ⌜ Accepted (networkIn (now net)) × Prepared (networkIn (now net)) (now chains) (now nexts) (now sides) (now feeders) (now order) × (32768 ≤ length (now text)) ⌝ }
-    ensures { λ r. ⌜ (r ≡ length (reportText (networkIn (now (net .entry))))) × (now (text .exit) ≡ reportText (networkIn (now (net .entry))) ++ drop (length (reportText (networkIn (now (net .entry))))) (now (text .entry))) ⌝ }
+    requires { ⌜ Accepted (networkIn (now net)) × Prepared (networkIn (now net)) (now chains) (now nexts) (now sides)
+        (now feeders) (now order) (now trips) (now counts) × (32768 ≤ length (now text)) ⌝ }
+    ensures { λ r. ⌜ (r ≡ length (reportText (networkIn (now (net .entry)))))
+        × (now (text .exit) ≡ reportText (networkIn (now (net .entry)))
+        ++ drop (length (reportText (networkIn (now (net .entry))))) (now (text .entry))) ⌝ }
 {
-    let mut sums = loading::lines_space();
+    let mut sums = paths::lines_space();
     outage::customers_behind(net, chains, nexts, &mut sums);
-    let mut impacts = loading::lines_space();
-    loading::line_impacts(net, sides, feeders, order, &sums, &mut impacts);
+    let mut impacts = paths::lines_space();
+    outage::impacts(net, trips, &sums, &mut impacts);
     let total = outage::total_of(net, &impacts);
     let mut best = [0u64; 16];
-    let found = planning::best_plan(net, sides, feeders, order, &sums, &mut best);
+    let found = planning::best_plan(net, sides, feeders, order, trips, counts, &sums, &mut best);
     report::write_report(
         net,
         &impacts,
@@ -185,9 +203,11 @@ pub fn report(file: &[u8], text: &mut [u8]) -> ReportAnswer
     let mut net = loading::net_space();
     let mut chains = loading::stations_space();
     let mut nexts = loading::nexts_space();
-    let mut sides = loading::lines_space();
-    let mut feeders = loading::lines_space();
-    let mut order = loading::lines_space();
+    let mut sides = paths::lines_space();
+    let mut feeders = paths::lines_space();
+    let mut order = paths::lines_space();
+    let mut trips = paths::lines_space();
+    let mut counts = paths::lines_space();
     match loading::load(
         file,
         &mut net,
@@ -196,10 +216,22 @@ pub fn report(file: &[u8], text: &mut [u8]) -> ReportAnswer
         &mut sides,
         &mut feeders,
         &mut order,
+        &mut trips,
+        &mut counts,
     ) {
         CheckAnswer::Refused { number, record } => ReportAnswer::Refused { number, record },
         CheckAnswer::Accepted => {
-            let length = report_network(&net, &chains, &nexts, &sides, &feeders, &order, text);
+            let length = report_network(
+                &net,
+                &chains,
+                &nexts,
+                &sides,
+                &feeders,
+                &order,
+                &trips,
+                &counts,
+                text,
+            );
             ReportAnswer::Written(length)
         }
     }
@@ -210,19 +242,18 @@ fn table_network(
     net: &buffer::Net,
     chains: &[u64; 512],
     nexts: &[u64; 1536],
-    sides: &[u64; 768],
-    feeders: &[u64; 768],
-    order: &[u64; 768],
+    trips: &[u64; 768],
     table: &mut [u64],
 ) -> usize
-    requires { ⌜ Accepted (networkIn (now net)) × Prepared (networkIn (now net)) (now chains) (now nexts) (now sides) (now feeders) (now order) × (7680 ≤ length (now table)) ⌝ }
-    ensures { λ r. ⌜ (r ≡ length (breakerEnds (networkIn (now (net .entry))))) × (now (table .exit) ≡ segmentTable (networkIn (now (net .entry))) ++ drop (length (segmentTable (networkIn (now (net .entry))))) (now (table .entry))) ⌝ }
+    requires { ⌜ Accepted (networkIn (now net)) × Linked (networkIn (now net)) (now chains) (now nexts)
+        × HoldsTrips (networkIn (now net)) (now trips) × (7680 ≤ length (now table)) ⌝ }
+    ensures { λ r. ⌜ (r ≡ length (breakerEnds (networkIn (now (net .entry)))))
+        × (now (table .exit) ≡ segmentTable (networkIn (now (net .entry)))
+        ++ drop (length (segmentTable (networkIn (now (net .entry))))) (now (table .entry))) ⌝ }
 {
-    let mut sums = loading::lines_space();
+    let mut sums = paths::lines_space();
     outage::customers_behind(net, chains, nexts, &mut sums);
-    let mut trips = loading::lines_space();
-    outage::trips(net, sides, feeders, order, &mut trips);
-    segments::write_table(net, &trips, &sums, table)
+    segments::write_table(net, trips, &sums, table)
 }
 
 // Segments: the lines grouped by the breaker that trips for them, five numbers a breaker, at the start of `table`.
@@ -240,9 +271,11 @@ pub fn segments(file: &[u8], table: &mut [u64]) -> SegmentsAnswer
     let mut net = loading::net_space();
     let mut chains = loading::stations_space();
     let mut nexts = loading::nexts_space();
-    let mut sides = loading::lines_space();
-    let mut feeders = loading::lines_space();
-    let mut order = loading::lines_space();
+    let mut sides = paths::lines_space();
+    let mut feeders = paths::lines_space();
+    let mut order = paths::lines_space();
+    let mut trips = paths::lines_space();
+    let mut counts = paths::lines_space();
     match loading::load(
         file,
         &mut net,
@@ -251,10 +284,12 @@ pub fn segments(file: &[u8], table: &mut [u64]) -> SegmentsAnswer
         &mut sides,
         &mut feeders,
         &mut order,
+        &mut trips,
+        &mut counts,
     ) {
         CheckAnswer::Refused { number, record } => SegmentsAnswer::Refused { number, record },
         CheckAnswer::Accepted => {
-            let entries = table_network(&net, &chains, &nexts, &sides, &feeders, &order, table);
+            let entries = table_network(&net, &chains, &nexts, &trips, table);
             SegmentsAnswer::Entries(entries)
         }
     }

@@ -27,7 +27,8 @@ pub extern "C" fn jubaxendi_check(file: &[u8], answer: &mut [u64; 8]) -> u64
 #[no_mangle]
 pub extern "C" fn jubaxendi_impact(file: &[u8], line: u64, answer: &mut [u64; 8]) -> u64
     ensures { λ r. ⌜ r ≡ returned (impactAnswered (now (file .entry)) line) ⌝ }
-    ensures { λ r. ⌜ now (answer .exit) ≡ answerLeaves impactValues (impactAnswered (now (file .entry)) line) (now (answer .entry)) ⌝ }
+    ensures { λ r. ⌜ now (answer .exit) ≡ answerLeaves impactValues (impactAnswered (now (file .entry)) line)
+        (now (answer .entry)) ⌝ }
 {
     match engine::impact(file, line) {
         ImpactAnswer::Refused { number, record } => answers::refusal(number, record),
@@ -59,7 +60,8 @@ pub extern "C" fn jubaxendi_total(file: &[u8], answer: &mut [u64; 8]) -> u64
 pub extern "C" fn jubaxendi_search(file: &[u8], members: &mut [u64], answer: &mut [u64; 8]) -> u64
     ensures { λ r. ⌜ r ≡ returned (searchAnswered (now (file .entry)) (now (members .entry))) ⌝ }
     ensures { λ r. ⌜ now (members .exit) ≡ searchLeaves (now (file .entry)) (now (members .entry)) ⌝ }
-    ensures { λ r. ⌜ now (answer .exit) ≡ answerLeaves searchValues (searchAnswered (now (file .entry)) (now (members .entry))) (now (answer .entry)) ⌝ }
+    ensures { λ r. ⌜ now (answer .exit) ≡ answerLeaves searchValues (searchAnswered (now (file .entry)) (now (members .entry)))
+        (now (answer .entry)) ⌝ }
 {
     match engine::search(file, members) {
         SearchAnswer::Refused { number, record } => answers::refusal(number, record),
@@ -87,7 +89,8 @@ pub extern "C" fn jubaxendi_search(file: &[u8], members: &mut [u64], answer: &mu
 pub extern "C" fn jubaxendi_report(file: &[u8], text: &mut [u8], answer: &mut [u64; 8]) -> u64
     ensures { λ r. ⌜ r ≡ returned (reportAnswered (now (file .entry)) (now (text .entry))) ⌝ }
     ensures { λ r. ⌜ now (text .exit) ≡ reportLeaves (now (file .entry)) (now (text .entry)) ⌝ }
-    ensures { λ r. ⌜ now (answer .exit) ≡ answerLeaves reportValues (reportAnswered (now (file .entry)) (now (text .entry))) (now (answer .entry)) ⌝ }
+    ensures { λ r. ⌜ now (answer .exit) ≡ answerLeaves reportValues (reportAnswered (now (file .entry)) (now (text .entry)))
+        (now (answer .entry)) ⌝ }
 {
     match engine::report(file, text) {
         ReportAnswer::Refused { number, record } => answers::refusal(number, record),
@@ -103,7 +106,8 @@ pub extern "C" fn jubaxendi_report(file: &[u8], text: &mut [u8], answer: &mut [u
 pub extern "C" fn jubaxendi_segments(file: &[u8], table: &mut [u64], answer: &mut [u64; 8]) -> u64
     ensures { λ r. ⌜ r ≡ returned (segmentsAnswered (now (file .entry)) (now (table .entry))) ⌝ }
     ensures { λ r. ⌜ now (table .exit) ≡ segmentsLeaves (now (file .entry)) (now (table .entry)) ⌝ }
-    ensures { λ r. ⌜ now (answer .exit) ≡ answerLeaves segmentsValues (segmentsAnswered (now (file .entry)) (now (table .entry))) (now (answer .entry)) ⌝ }
+    ensures { λ r. ⌜ now (answer .exit) ≡ answerLeaves segmentsValues
+        (segmentsAnswered (now (file .entry)) (now (table .entry))) (now (answer .entry)) ⌝ }
 {
     match engine::segments(file, table) {
         SegmentsAnswer::Refused { number, record } => answers::refusal(number, record),

@@ -11,6 +11,7 @@ use Rattle.model.specs.declared.CheckAnswer.{CheckAnswer}
 use Rattle.buffer.specs.Buffer.{networkIn}
 use Rattle.tree.specs.Linked.{Linked}
 use Rattle.tree.specs.Outwards.{Outwards}
+use Rattle.paths.specs.Held.{HoldsTrips, HoldsCounts}
 
 -- the rules 4 to 8 in turn, before `next`
 unfoldable pub forest : Network → Answer Network → Answer Network
@@ -38,6 +39,8 @@ unfolding before networkIn
 loaded answer b = before answer (given (networkIn b))
 
 -- what is prepared of an accepted network
-pub record Prepared (N : Network) (chains nexts near feeders order : List ℕ) : Type 0 where
+pub record Prepared (N : Network) (chains nexts sides feeders order trips counts : List ℕ) : Type 0 where
   pub linked : Linked N chains nexts
-  pub outwards : Outwards N near feeders order
+  pub outwards : Outwards N sides feeders order
+  pub tripping : HoldsTrips N trips
+  pub counted : HoldsCounts N counts

@@ -1,4 +1,4 @@
-// A file loaded: read and held to the rules, with the lines from the HV stations outwards.
+// A file loaded: read and held to the rules, with the lines from the HV stations outwards and the breakers on their paths.
 ghost use mathlib.Core.Path.{_≡_};
 ghost use Prim.Native.Nat.{_≤_};
 ghost use Rattle.model.specs.Answer.{Answer};
@@ -8,8 +8,9 @@ ghost use Rattle.theory.specs.Radial.{Rules};
 ghost use Rattle.buffer.specs.Buffer.{networkIn};
 ghost use Rattle.model.specs.Rules.{stationRecord, lineRecord, radial, accepted};
 ghost use Rattle.theory.specs.Best.{Accepted};
-ghost use Rattle.outage.specs.Held.{HoldsCustomers, HoldsImpacts};
-ghost use Rattle.tree.specs.Outwards.{Outwards};
+ghost use Rattle.outage.specs.Held.{HoldsImpacts};
+ghost use Rattle.tree.specs.Linked.{Linked};
+ghost use Rattle.paths.specs.Held.{HoldsTrips};
 ghost use Rattle.loading.specs.Loading.{forest, before, loaded, Prepared};
 use model::CheckAnswer;
 use reader::ReadAnswer;
@@ -78,8 +79,8 @@ pub fn stations_space() -> [u64; 512] {
     [0; 512]
 }
 
-// The rules 4 to 9 in turn. Where they hold, the lists of the closed ends at each station and the lines from the HV stations
-// outwards are left in the buffers.
+// The rules 4 to 9 in turn. Where they hold, the lists of the closed ends at each station, the lines from the HV stations outwards,
+// the breaker that trips for each line and the breakers on its path are left in the buffers.
 fn rules(
     net: &buffer::Net,
     chains: &mut [u64; 512],
@@ -87,10 +88,14 @@ fn rules(
     sides: &mut [u64; 768],
     feeders: &mut [u64; 768],
     order: &mut [u64; 768],
+    trips: &mut [u64; 768],
+    counts: &mut [u64; 768],
 ) -> CheckAnswer
     requires { ⌜ Read (networkIn (now net)) ⌝ }
     ensures { λ r. ⌜ loaded r (now (net .entry)) ≡ radial (networkIn (now (net .entry))) ⌝ }
-    ensures { λ r. ⌜ (r ≡ CheckAnswer.Accepted → Prepared (networkIn (now (net .entry))) (now (chains .exit)) (now (nexts .exit)) (now (sides .exit)) (now (feeders .exit)) (now (order .exit))) ⌝ }
+    ensures { λ r. ⌜ (r ≡ CheckAnswer.Accepted → Prepared (networkIn (now (net .entry))) (now (chains .exit))
+        (now (nexts .exit)) (now (sides .exit)) (now (feeders .exit)) (now (order .exit)) (now (trips .exit))
+        (now (counts .exit))) ⌝ }
 {
     match forest_rules(net) {
         CheckAnswer::Refused { number, record } => {
@@ -100,7 +105,8 @@ fn rules(
     }
     tree::link_ends(net, chains, nexts);
     tree::outwards(net, chains, nexts, sides, feeders, order);
-    if tree::over_series(net, sides, feeders, order) {
+    paths::fill_breakers(net, sides, feeders, order, trips, counts);
+    if paths::over_series(net, sides, counts) {
         return CheckAnswer::Refused {
             number: 9,
             record: 0,
@@ -118,49 +124,34 @@ pub fn load(
     sides: &mut [u64; 768],
     feeders: &mut [u64; 768],
     order: &mut [u64; 768],
+    trips: &mut [u64; 768],
+    counts: &mut [u64; 768],
 ) -> CheckAnswer
     ensures { λ r. ⌜ loaded r (now (net .exit)) ≡ accepted (now (file .entry)) ⌝ }
-    ensures { λ r. ⌜ (r ≡ CheckAnswer.Accepted → Prepared (networkIn (now (net .exit))) (now (chains .exit)) (now (nexts .exit)) (now (sides .exit)) (now (feeders .exit)) (now (order .exit))) ⌝ }
+    ensures { λ r. ⌜ (r ≡ CheckAnswer.Accepted → Prepared (networkIn (now (net .exit))) (now (chains .exit)) (now (nexts .exit))
+        (now (sides .exit)) (now (feeders .exit)) (now (order .exit)) (now (trips .exit)) (now (counts .exit))) ⌝ }
 {
     match reader::read(file, net) {
         ReadAnswer::Refused { number, record } => CheckAnswer::Refused { number, record },
-        ReadAnswer::Read => rules(net, chains, nexts, sides, feeders, order),
+        ReadAnswer::Read => rules(net, chains, nexts, sides, feeders, order, trips, counts),
     }
 }
 
-// The impact of a fault on each line of an accepted network, from the customers behind each line.
-pub fn line_impacts(
-    net: &buffer::Net,
-    sides: &[u64; 768],
-    feeders: &[u64; 768],
-    order: &[u64; 768],
-    sums: &[u64; 768],
-    out: &mut [u64; 768],
-)
-    requires { ⌜ Accepted (networkIn (now net)) × Outwards (networkIn (now net)) (now sides) (now feeders) (now order) × HoldsCustomers (networkIn (now net)) (now sums) ⌝ }
-    ensures { λ r. ⌜ HoldsImpacts (networkIn (now (net .entry))) (now (out .exit)) ⌝ }
-{
-    let mut trips = lines_space();
-    outage::trips(net, sides, feeders, order, &mut trips);
-    outage::impacts(net, &trips, sums, out);
-}
-
-// The impact of a fault on each line of an accepted network.
-fn impacts(
+// The impact of a fault on each line of an accepted network, by the breaker that trips for it.
+fn line_impacts(
     net: &buffer::Net,
     chains: &[u64; 512],
     nexts: &[u64; 1536],
-    sides: &[u64; 768],
-    feeders: &[u64; 768],
-    order: &[u64; 768],
+    trips: &[u64; 768],
     out: &mut [u64; 768],
 )
-    requires { ⌜ Accepted (networkIn (now net)) × Prepared (networkIn (now net)) (now chains) (now nexts) (now sides) (now feeders) (now order) ⌝ }
+    requires { ⌜ Accepted (networkIn (now net)) × Linked (networkIn (now net)) (now chains) (now nexts)
+        × HoldsTrips (networkIn (now net)) (now trips) ⌝ }
     ensures { λ r. ⌜ HoldsImpacts (networkIn (now (net .entry))) (now (out .exit)) ⌝ }
 {
-    let mut sums = lines_space();
+    let mut sums = paths::lines_space();
     outage::customers_behind(net, chains, nexts, &mut sums);
-    line_impacts(net, sides, feeders, order, &sums, out);
+    outage::impacts(net, trips, &sums, out);
 }
 
 // Reads and checks a file. Where it is accepted, its network and the impact of a fault on each line are left in the buffers.
@@ -170,9 +161,11 @@ pub fn load_impacts(file: &[u8], net: &mut buffer::Net, out: &mut [u64; 768]) ->
 {
     let mut chains = stations_space();
     let mut nexts = nexts_space();
-    let mut sides = lines_space();
-    let mut feeders = lines_space();
-    let mut order = lines_space();
+    let mut sides = paths::lines_space();
+    let mut feeders = paths::lines_space();
+    let mut order = paths::lines_space();
+    let mut trips = paths::lines_space();
+    let mut counts = paths::lines_space();
     match load(
         file,
         net,
@@ -181,10 +174,12 @@ pub fn load_impacts(file: &[u8], net: &mut buffer::Net, out: &mut [u64; 768]) ->
         &mut sides,
         &mut feeders,
         &mut order,
+        &mut trips,
+        &mut counts,
     ) {
         CheckAnswer::Refused { number, record } => CheckAnswer::Refused { number, record },
         CheckAnswer::Accepted => {
-            impacts(net, &chains, &nexts, &sides, &feeders, &order, out);
+            line_impacts(net, &chains, &nexts, &trips, out);
             CheckAnswer::Accepted
         }
     }
@@ -198,9 +193,4 @@ pub fn net_space() -> buffer::Net {
 // Room for a number of each end.
 pub fn nexts_space() -> [u64; 1536] {
     [0; 1536]
-}
-
-// Room for a number of each line.
-pub fn lines_space() -> [u64; 768] {
-    [0; 768]
 }

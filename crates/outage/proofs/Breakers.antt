@@ -19,7 +19,8 @@ use Rattle.theory.specs.Radial.{Rules}
 use Rattle.theory.specs.Behind.{side-of}
 use Rattle.theory.specs.Segments.{tripped-breaker}
 use Rattle.tree.specs.Linked.{endCode}
-use Rattle.outage.specs.Held.{HoldsCustomers, HoldsTrips}
+use Rattle.paths.specs.Held.{HoldsTrips}
+use Rattle.outage.specs.Held.{HoldsCustomers}
 use Rattle.outage.proofs.Paths.{behind-line}
 
 -- ── ends and their codes ──

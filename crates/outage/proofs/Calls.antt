@@ -8,22 +8,15 @@ use lib.ListN.{length, set}
 use borrow.Author.Tests.{eq-eqb, ne-eqb}
 use Rattle.model.specs.Network.{Network}
 use Rattle.model.specs.Paths.{End, state, stationAt}
-use Rattle.theory.specs.Reading.{Read}
 use Rattle.theory.specs.Ends.{closed-end}
 use Rattle.theory.specs.Behind.{far, stationSum, lineSum}
 use Rattle.buffer.specs.Buffer.{networkIn}
-use Rattle.buffer.specs.Fits.{Fits, EndThere, endIn}
+use Rattle.buffer.specs.Fits.{EndThere, endIn}
 use Rattle.tree.specs.Linked.{codeEnd}
+use Rattle.tree.proofs.Fitting.{read-fits}
 use Rattle.outage.specs.Below.{Ready, Leaves, AtLine, AtStation, Filled}
 use Rattle.outage.proofs.Paths.{line-levels, at-far}
 use Rattle.outage.proofs.Filling.{filled-none, filled-line}
-
-pub read-fits : (N : Network) → Read N → Fits N
-read-fits N d = record {
-  stations = omega (arith, d .stationCount, d .head .stations .high);
-  lines = omega (arith, d .lineCount, d .head .lines .high);
-  places = d .placeCount;
-}
 
 -- ── the sum of a line, one level down ──
 module _ (N : Network) (e : End) where

@@ -3,21 +3,22 @@ use Prim.Native.Nat.{ℕ, zero, suc, _+_, _*_, _-_, _/_, _%_, _^_, _≤_, _<_}
 use mathlib.Core.Path.{_≡_, refl, sym, ap, _∙_, subst}
 use mathlib.Core.Bool.{Bool, true, false, not, _&&_}
 use mathlib.Core.Logic.{_≢_, _⊎_, inl, inr, ⊎-elim}
-use mathlib.Core.List.{List, [], _∷_, map, flatMap, List·Memᴰ, List·Memᴰ·head, List·Memᴰ·tail, List·Memᴰ·not-nil, List·Memᴰ·cases-cons}
+use mathlib.Core.List.{List, [], _∷_, map, List·Memᴰ, List·Memᴰ·head, List·Memᴰ·tail, List·Memᴰ·not-nil, List·Memᴰ·cases-cons}
 use native.Mathlib.Omega.{arith}
 use lib.Dec.{eqb}
 use lib.ListN.{length, getD}
 use borrow.Author.Tests.{eqb-true, eq-eqb, not-true}
-use Rattle.model.specs.Lists.{sum, keep, numbers}
+use Rattle.model.specs.Lists.{sum, keep}
 use Rattle.model.specs.Network.{Network}
-use Rattle.model.specs.Paths.{End, sameEnd, end1, end2, lineNumbers, isOpen, stationAt, closedEnds, customersOf}
+use Rattle.model.specs.Paths.{End, sameEnd, isOpen, stationAt, closedEnds, customersOf}
 use Rattle.graphs.specs.Behind.{same-not, same-false}
 use Rattle.theory.specs.Reading.{Read}
-use Rattle.theory.specs.Sizes.{numbers-length, keep-length, read-sized, customersBehind-size}
+use Rattle.theory.specs.Sizes.{keep-length, read-sized, customersBehind-size}
 use Rattle.theory.specs.Ends.{in-keep, keep-in, sameEnd-is, end-discrete, in-closed, closed-in}
 use Rattle.theory.specs.Radial.{Rules}
 use Rattle.theory.specs.Behind.{stationSum, lineSum, lineSum-left}
 use Rattle.tree.specs.Linked.{codeEnd, Chain, over, link, endsAt, Linked}
+use Rattle.tree.proofs.Lengths.{closed-length}
 use Rattle.outage.specs.Below.{Leaves, AtStation, Filled}
 use Rattle.outage.proofs.Paths.{station-levels, at-line}
 use Rattle.outage.proofs.Filling.{filled-none, filled-fewer, filled-both}
@@ -39,21 +40,6 @@ sum-within : {A : Type 0} (f : A → ℕ) (most : ℕ) (xs : List A) → ((x : A
 unfolding sum
 sum-within f most [] h = omega arith
 sum-within f most (x ∷ xs) h = omega (arith, h x (List·Memᴰ·head refl), sum-within f most xs (λ y m. h y (List·Memᴰ·tail m)))
-
--- two ends a line
-ends-length : (ls : List ℕ) → length (flatMap (λ l. end1 l ∷ end2 l ∷ []) ls) ≡ 2 * length ls
-unfolding flatMap
-ends-length [] = refl
-ends-length (l ∷ ls) = omega (arith, ends-length ls)
-
-pub closed-length : (N : Network) → length (closedEnds N) ≤ 2 * length (N .lines)
-unfolding closedEnds lineNumbers
-closed-length N = omega (
-  arith,
-  keep-length (λ e. not (isOpen N e)) (flatMap (λ l. end1 l ∷ end2 l ∷ []) (numbers 1 (length (N .lines)))),
-  ends-length (numbers 1 (length (N .lines))),
-  numbers-length 1 (length (N .lines)),
-)
 
 -- ── codes and lists of ends ──
 pub code-apart : (c d : ℕ) → (c ≡ d → ⊥) → codeEnd c ≢ codeEnd d

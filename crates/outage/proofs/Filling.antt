@@ -16,8 +16,9 @@ use Rattle.theory.specs.Ends.{closed-end}
 use Rattle.theory.specs.Radial.{Rules}
 use Rattle.theory.specs.Behind.{far, lineSum, lineSum-left}
 use Rattle.tree.specs.Outwards.{nearEnd}
+use Rattle.tree.proofs.Near.{near-is}
 use Rattle.outage.specs.Below.{Leaves, AtLine, Filled}
-use Rattle.outage.proofs.Paths.{near-is, beyond}
+use Rattle.outage.proofs.Paths.{beyond}
 
 module _ (N : Network) where
   -- nothing stored
@@ -46,7 +47,7 @@ module _ (N : Network) where
             ∙ getD-set-same new (e .line - 1) sum 0 (omega arith)
             ∙ s
             ∙ sym (lineSum-left N d r k e (t .near .closed) (t .near .path) (t .enough))
-            ∙ ap (customersBehind N) (sym (near-is N d r (e .line) e (t .near)) ∙ ap (nearEnd N) (sym p))
+            ∙ ap (customersBehind N) (sym (near-is N (e .line) e _ (t .near .path)) ∙ ap (nearEnd N) (sym p))
             )
         go (no p) =
             let o = getD-set-other new (e .line - 1) (l - 1) sum 0 (let c = closed-end N e (t .near .closed) in omega (arith, c .0)) in

@@ -1,6 +1,4 @@
 pub mod Totals
-pub mod Tripping
-pub mod Order
 pub mod Paths
 pub mod Filling
 pub mod Chains

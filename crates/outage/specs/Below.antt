@@ -12,7 +12,7 @@ use Rattle.theory.specs.Reading.{Read}
 use Rattle.theory.specs.Radial.{Rules}
 use Rattle.tree.specs.Linked.{Linked}
 use Rattle.tree.specs.Outwards.{nearEnd}
-use Rattle.outage.specs.Feeding.{Near}
+use Rattle.tree.specs.Feeding.{Near}
 
 -- a network that is read and keeps the rules, with the lists of its ends
 pub record Ready (N : Network) (chains nexts : List ℕ) : Type 0 where

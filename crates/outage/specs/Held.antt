@@ -4,17 +4,12 @@ use mathlib.Core.Path.{_≡_}
 use mathlib.Core.List.{List}
 use lib.ListN.{length, getD}
 use Rattle.model.specs.Network.{Network}
-use Rattle.model.specs.Outage.{customersBehind, tripped, impact}
-use Rattle.tree.specs.Linked.{endCode}
+use Rattle.model.specs.Outage.{customersBehind, impact}
 use Rattle.tree.specs.Outwards.{nearEnd}
 
 -- the customers behind each line
 abbrev pub HoldsCustomers : Network → List ℕ → Type 0
 HoldsCustomers N sums = (l : ℕ) → 1 ≤ l → l ≤ length (N .lines) → getD sums (l - 1) 0 ≡ customersBehind N (nearEnd N l)
-
--- the code of the breaker that trips for each line
-abbrev pub HoldsTrips : Network → List ℕ → Type 0
-HoldsTrips N trips = (l : ℕ) → 1 ≤ l → l ≤ length (N .lines) → getD trips (l - 1) 0 ≡ endCode (tripped N l)
 
 -- the impact of a fault on each line
 abbrev pub HoldsImpacts : Network → List ℕ → Type 0

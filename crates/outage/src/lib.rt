@@ -1,20 +1,18 @@
-// The customers behind each line, the breaker that trips for it, its impact, the total of the outage amounts and the SAIDI figure.
+// The customers behind each line, the impact of a fault on it, the total of the outage amounts and the SAIDI figure.
 // An end has a code: 1 and 2 are the ends of line 1, 3 and 4 those of line 2; 0 is none.
 ghost use mathlib.Core.Path.{_≡_};
 ghost use Prim.Native.Nat.{_+_, _*_, _-_, _/_, _≤_, _<_};
 ghost use lib.ListN.{length, getD};
-ghost use Rattle.model.specs.Paths.{isBreaker};
-ghost use Rattle.model.specs.Outage.{tripped, impact, outageAmount, total as totalOf, figure};
+ghost use Rattle.model.specs.Outage.{impact, outageAmount, total as totalOf, figure};
 ghost use Rattle.theory.specs.Reading.{Read};
 ghost use Rattle.theory.specs.Radial.{Rules};
 ghost use Rattle.theory.specs.Sizes.{Sized};
 ghost use Rattle.theory.specs.Behind.{stationSum, lineSum};
 ghost use Rattle.buffer.specs.Buffer.{networkIn};
-ghost use Rattle.buffer.specs.Fits.{Fits, LineThere, EndThere, endIn};
-ghost use Rattle.tree.specs.Linked.{endCode, codeEnd, Linked};
-ghost use Rattle.tree.specs.Outwards.{Outwards};
-ghost use Rattle.outage.specs.Held.{HoldsCustomers, HoldsTrips, HoldsImpacts};
-ghost use Rattle.outage.specs.Feeding.{Feeds, Known};
+ghost use Rattle.buffer.specs.Fits.{LineThere};
+ghost use Rattle.tree.specs.Linked.{codeEnd, Linked};
+ghost use Rattle.paths.specs.Held.{HoldsTrips};
+ghost use Rattle.outage.specs.Held.{HoldsCustomers, HoldsImpacts};
 ghost use Rattle.outage.specs.Below.{Ready, Leaves, AtLine, AtStation, Filled};
 use amounts::Customers;
 use amounts::Total;
@@ -31,8 +29,11 @@ fn station_sum(
     station: usize,
     levels: usize,
 ) -> u64
-    requires { ⌜ Ready (networkIn (now net)) (now chains) (now nexts) × AtStation (networkIn (now net)) (codeEnd came) station levels × (length (now sums) ≡ 768) ⌝ }
-    ensures { λ r. ⌜ (r ≡ stationSum (networkIn (now (net .entry))) levels (codeEnd came) station) × Filled (networkIn (now (net .entry))) (Leaves (networkIn (now (net .entry))) (codeEnd came) station) (now (sums .entry)) (now (sums .exit)) ⌝ }
+    requires { ⌜ Ready (networkIn (now net)) (now chains) (now nexts)
+        × AtStation (networkIn (now net)) (codeEnd came) station levels × (length (now sums) ≡ 768) ⌝ }
+    ensures { λ r. ⌜ (r ≡ stationSum (networkIn (now (net .entry))) levels (codeEnd came) station)
+        × Filled (networkIn (now (net .entry))) (Leaves (networkIn (now (net .entry))) (codeEnd came) station)
+        (now (sums .entry)) (now (sums .exit)) ⌝ }
 {
     let mut sum = buffer::customers(net, station);
     let mut end = chains[station - 1] as usize;
@@ -55,8 +56,10 @@ fn line_sum(
     entered: usize,
     levels: usize,
 ) -> u64
-    requires { ⌜ Ready (networkIn (now net)) (now chains) (now nexts) × AtLine (networkIn (now net)) (codeEnd entered) levels × (length (now sums) ≡ 768) ⌝ }
-    ensures { λ r. ⌜ (r ≡ lineSum (networkIn (now (net .entry))) levels (codeEnd entered)) × Filled (networkIn (now (net .entry))) (λ d. d ≡ codeEnd entered) (now (sums .entry)) (now (sums .exit)) ⌝ }
+    requires { ⌜ Ready (networkIn (now net)) (now chains) (now nexts) × AtLine (networkIn (now net)) (codeEnd entered) levels
+        × (length (now sums) ≡ 768) ⌝ }
+    ensures { λ r. ⌜ (r ≡ lineSum (networkIn (now (net .entry))) levels (codeEnd entered))
+        × Filled (networkIn (now (net .entry))) (λ d. d ≡ codeEnd entered) (now (sums .entry)) (now (sums .exit)) ⌝ }
 {
     let line = (entered + 1) / 2;
     // the far end
@@ -98,94 +101,11 @@ pub fn customers_behind(
     nexts: &[u64; 1536],
     sums: &mut [u64; 768],
 )
-    requires { ⌜ Read (networkIn (now net)) × Rules (networkIn (now net)) × Linked (networkIn (now net)) (now chains) (now nexts) ⌝ }
+    requires { ⌜ Read (networkIn (now net)) × Rules (networkIn (now net))
+        × Linked (networkIn (now net)) (now chains) (now nexts) ⌝ }
     ensures { λ r. ⌜ HoldsCustomers (networkIn (now (net .entry))) (now (sums .exit)) ⌝ }
 {
     sums_outwards(net, chains, nexts, sums);
-}
-
-// Whether the near end of a line is a breaker.
-fn near_breaker(net: &buffer::Net, sides: &[u64; 768], line: usize) -> bool
-    requires { ⌜ EndThere (now net) line (getD (now sides) (line - 1) 0) ⌝ }
-    ensures { λ r. ⌜ r ≡ isBreaker (networkIn (now (net .entry))) (endIn line (getD (now (sides .entry)) (line - 1) 0)) ⌝ }
-{
-    buffer::is_breaker(net, line, sides[line - 1] as usize)
-}
-
-// Whether the far end of a line is a breaker.
-fn far_breaker(net: &buffer::Net, sides: &[u64; 768], line: usize) -> bool
-    requires { ⌜ EndThere (now net) line (getD (now sides) (line - 1) 0) ⌝ }
-    ensures { λ r. ⌜ r ≡ isBreaker (networkIn (now (net .entry))) (endIn line (3 - getD (now (sides .entry)) (line - 1) 0)) ⌝ }
-{
-    buffer::is_breaker(net, line, 3 - sides[line - 1] as usize)
-}
-
-// The code of the near end of a line.
-fn near_code(sides: &[u64; 768], line: usize) -> u64
-    requires { ⌜ (1 ≤ line) × (line ≤ 768) × (getD (now sides) (line - 1) 0 ≤ 2) ⌝ }
-    ensures { λ r. ⌜ r ≡ 2 * line + getD (now (sides .entry)) (line - 1) 0 - 2 ⌝ }
-{
-    2 * line as u64 + sides[line - 1] - 2
-}
-
-// The code of the far end of a line.
-fn far_code(sides: &[u64; 768], line: usize) -> u64
-    requires { ⌜ (1 ≤ line) × (line ≤ 768) × (getD (now sides) (line - 1) 0 ≤ 2) ⌝ }
-    ensures { λ r. ⌜ r ≡ 2 * line + 1 - getD (now (sides .entry)) (line - 1) 0 ⌝ }
-{
-    2 * line as u64 + 1 - sides[line - 1]
-}
-
-// The code of the breaker that trips for a fault on a line, where `trips` has that of the line that feeds it.
-fn trip_of(
-    net: &buffer::Net,
-    sides: &[u64; 768],
-    feeders: &[u64; 768],
-    trips: &[u64],
-    line: usize,
-) -> u64
-    requires { ⌜ Known (now net) (now sides) (now feeders) (now trips) line × (length (now trips) ≡ 768) ⌝ }
-    ensures { λ r. ⌜ r ≡ endCode (tripped (networkIn (now (net .entry))) line) ⌝ }
-{
-    if near_breaker(net, sides, line) {
-        return near_code(sides, line);
-    }
-    let feeder = feeders[line - 1] as usize;
-    if far_breaker(net, sides, feeder) {
-        return far_code(sides, feeder);
-    }
-    trips[feeder - 1]
-}
-
-// The code of the breaker that trips for each line, from the HV stations outwards.
-fn trips_outwards(
-    net: &buffer::Net,
-    sides: &[u64; 768],
-    feeders: &[u64; 768],
-    order: &[u64; 768],
-    out: &mut [u64],
-)
-    requires { ⌜ Fits (networkIn (now net)) × Feeds (networkIn (now net)) × Outwards (networkIn (now net)) (now sides) (now feeders) (now order) × (length (now out) ≡ 768) ⌝ }
-    ensures { λ r. ⌜ HoldsTrips (networkIn (now (net .entry))) (now (out .exit)) ⌝ }
-{
-    for i in 0..buffer::line_count(net) {
-        let line = order[i] as usize;
-        out[line - 1] = trip_of(net, sides, feeders, out, line);
-    }
-}
-
-// The code of the breaker that trips for each line.
-pub fn trips(
-    net: &buffer::Net,
-    sides: &[u64; 768],
-    feeders: &[u64; 768],
-    order: &[u64; 768],
-    out: &mut [u64; 768],
-)
-    requires { ⌜ Read (networkIn (now net)) × Rules (networkIn (now net)) × Outwards (networkIn (now net)) (now sides) (now feeders) (now order) ⌝ }
-    ensures { λ r. ⌜ HoldsTrips (networkIn (now (net .entry))) (now (out .exit)) ⌝ }
-{
-    trips_outwards(net, sides, feeders, order, out);
 }
 
 // The line of the breaker that trips for line i + 1.
@@ -198,7 +118,8 @@ fn trip_line(trips: &[u64; 768], i: usize) -> usize
 
 // The impact of a fault on each line: the customers behind the line of the breaker that trips for it.
 fn impacts_behind(net: &buffer::Net, trips: &[u64; 768], sums: &[u64; 768], out: &mut [u64])
-    requires { ⌜ Read (networkIn (now net)) × Rules (networkIn (now net)) × HoldsTrips (networkIn (now net)) (now trips) × HoldsCustomers (networkIn (now net)) (now sums) × (length (now out) ≡ 768) ⌝ }
+    requires { ⌜ Read (networkIn (now net)) × Rules (networkIn (now net)) × HoldsTrips (networkIn (now net)) (now trips)
+        × HoldsCustomers (networkIn (now net)) (now sums) × (length (now out) ≡ 768) ⌝ }
     ensures { λ r. ⌜ HoldsImpacts (networkIn (now (net .entry))) (now (out .exit)) ⌝ }
 {
     for i in 0..buffer::line_count(net) {
@@ -209,7 +130,8 @@ fn impacts_behind(net: &buffer::Net, trips: &[u64; 768], sums: &[u64; 768], out:
 
 // The impact of a fault on each line.
 pub fn impacts(net: &buffer::Net, trips: &[u64; 768], sums: &[u64; 768], out: &mut [u64; 768])
-    requires { ⌜ Read (networkIn (now net)) × Rules (networkIn (now net)) × HoldsTrips (networkIn (now net)) (now trips) × HoldsCustomers (networkIn (now net)) (now sums) ⌝ }
+    requires { ⌜ Read (networkIn (now net)) × Rules (networkIn (now net)) × HoldsTrips (networkIn (now net)) (now trips)
+        × HoldsCustomers (networkIn (now net)) (now sums) ⌝ }
     ensures { λ r. ⌜ HoldsImpacts (networkIn (now (net .entry))) (now (out .exit)) ⌝ }
 {
     impacts_behind(net, trips, sums, out);
@@ -217,7 +139,8 @@ pub fn impacts(net: &buffer::Net, trips: &[u64; 768], sums: &[u64; 768], out: &m
 
 // The outage amount of a line: its weight times the impact of a fault on it.
 pub fn outage_amount(net: &buffer::Net, impacts: &[u64; 768], line: usize) -> Total
-    requires { ⌜ LineThere (now net) line × Sized (networkIn (now net)) × (getD (now impacts) (line - 1) 0 ≡ impact (networkIn (now net)) line) ⌝ }
+    requires { ⌜ LineThere (now net) line × Sized (networkIn (now net))
+        × (getD (now impacts) (line - 1) 0 ≡ impact (networkIn (now net)) line) ⌝ }
     ensures { λ r. ⌜ r .0 ≡ outageAmount (networkIn (now (net .entry))) line ⌝ }
 {
     let weight = Weight::new(buffer::weight(net, line));

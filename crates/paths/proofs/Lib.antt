@@ -1,4 +1,3 @@
-pub mod Marking
-pub mod PlaceOn
 pub mod Meeting
 pub mod Passing
+pub mod FarEnds

@@ -1,148 +1,86 @@
-// What the paths of the lines meet on their way to the HV station: breakers and places. An end has a code: 1 and 2 are the ends of
-// line 1, 3 and 4 those of line 2; 0 is none. The places have the file's numbers, from 1; 0 is none.
+// What the path of each line meets on its way to the HV station, by the marks on the ends: the breaker that trips for the line and
+// how many breakers are on the path; the first place. And the most breakers in series. An end has a code: 1 and 2 are the ends of
+// line 1, 3 and 4 those of line 2; 0 is none.
 ghost use mathlib.Core.Path.{_≡_};
-ghost use mathlib.Core.Bool.{true, false};
 ghost use mathlib.Core.List.{List, _∷_};
+ghost use Prim.Native.Nat.{_+_, _-_, _≤_, max};
 ghost use lib.ListN.{length, getD};
-ghost use Rattle.theory.specs.Best.{Accepted};
-ghost use Rattle.buffer.specs.Buffer.{networkIn};
-ghost use Rattle.tree.specs.Outwards.{Outwards, nearEnd, feeder};
-ghost use Rattle.paths.specs.Held.{HoldsEnds, HoldsPlaces, HoldsLines};
-ghost use Prim.Native.Nat.{ℕ, _+_, _*_, _-_, _≤_, _<_};
 ghost use Rattle.model.specs.Paths.{End};
-ghost use Rattle.savings.specs.Breakers.{endAt};
+ghost use Rattle.model.specs.Rules.{breakersOn, seriesBroken};
 ghost use Rattle.theory.specs.Reading.{Read};
-ghost use Rattle.tree.specs.Linked.{endCode, codeEnd};
+ghost use Rattle.theory.specs.Radial.{Rules};
+ghost use Rattle.theory.specs.Behind.{far};
+ghost use Rattle.buffer.specs.Buffer.{networkIn};
+ghost use Rattle.buffer.specs.Fits.{LineThere};
+ghost use Rattle.tree.specs.Linked.{endCode};
+ghost use Rattle.tree.specs.Outwards.{Outwards, nearEnd};
 ghost use Rattle.sets.specs.Sets.{route};
-ghost use Rattle.paths.specs.Meets.{orElse, Meets, pathBeyond, HoldsFeeders, metIn};
+ghost use Rattle.marks.specs.Held.{HoldsPlaces};
+ghost use Rattle.paths.specs.Held.{HoldsSides, HoldsTrips, HoldsCounts, HoldsFirsts};
+ghost use Rattle.paths.specs.Meets.{orElse, markAt, Meets, HoldsMet, pathBeyond, Feeding, Known, mostInSeries, farRoute};
 
-// The code of the end that a place is on.
-fn end_of(net: &buffer::Net, place: usize) -> usize
-    requires { ⌜ Read (networkIn (now net)) × (1 ≤ place) × (place ≤ length (networkIn (now net) .places)) ⌝ }
-    ensures { λ r. ⌜ (r ≡ endCode (endAt (networkIn (now (net .entry))) place)) × (1 ≤ r) × (r ≤ 2 * length (networkIn (now (net .entry)) .lines)) ⌝ }
+// The code of the near end of a line.
+fn near_code(net: &buffer::Net, sides: &[u64; 768], line: usize) -> usize
+    requires { ⌜ Read (networkIn (now net)) × Rules (networkIn (now net)) × HoldsSides (networkIn (now net)) (now sides)
+        × LineThere (now net) line ⌝ }
+    ensures { λ r. ⌜ (r ≡ endCode (nearEnd (networkIn (now (net .entry))) line)) × (r ≤ 1536) ⌝ }
 {
-    2 * buffer::place_line(net, place) + buffer::place_side(net, place) - 2
+    2 * line + sides[line - 1] as usize - 2
 }
 
-// No place has an end.
-fn no_ends(ends: &mut [u64; 65])
-    ensures { λ r. ⌜ length (now (ends .exit)) ≡ 65 ⌝ }
+// The code of the far end of a line.
+fn far_code(net: &buffer::Net, sides: &[u64; 768], line: usize) -> usize
+    requires { ⌜ Read (networkIn (now net)) × Rules (networkIn (now net)) × HoldsSides (networkIn (now net)) (now sides)
+        × LineThere (now net) line ⌝ }
+    ensures { λ r. ⌜ (r ≡ endCode (far (nearEnd (networkIn (now (net .entry))) line))) × (r ≤ 1536) ⌝ }
 {
-    *ends = [0; 65];
+    2 * line + 1 - sides[line - 1] as usize
 }
 
-// The code of each place's end.
-pub fn fill_ends(net: &buffer::Net, ends: &mut [u64; 65])
-    requires { ⌜ Read (networkIn (now net)) ⌝ }
-    ensures { λ r. ⌜ HoldsEnds (networkIn (now (net .entry))) (now (ends .exit)) × (length (now (ends .exit)) ≡ 65) ⌝ }
-{
-    no_ends(ends);
-    for place in 1..buffer::place_count(net) + 1 {
-        ends[place] = end_of(net, place) as u64;
-    }
-}
-
-// No end has a place.
-fn no_marks(marks: &mut [u64; 1537])
-    ensures { λ r. ⌜ ((k : ℕ) → getD (now (marks .exit)) k 0 ≡ 0) × (length (now (marks .exit)) ≡ 1537) ⌝ }
-{
-    *marks = [0; 1537];
-}
-
-// Whether a number is a place's: the first place is 1.
-fn is_place(place: usize) -> bool
-    ensures { λ r. ⌜ (r ≡ true → 1 ≤ place) × (r ≡ false → place < 1) ⌝ }
-{
-    1 <= place
-}
-
-// The place on each end, by the end's code.
-pub fn fill_places(net: &buffer::Net, marks: &mut [u64; 1537])
-    requires { ⌜ Read (networkIn (now net)) ⌝ }
-    ensures { λ r. ⌜ HoldsPlaces (networkIn (now (net .entry))) (now (marks .exit)) ⌝ }
-{
-    no_marks(marks);
-    let mut place = buffer::place_count(net);
-    while is_place(place) {
-        marks[end_of(net, place)] = place as u64;
-        place -= 1;
-    }
-}
-
-// What a path to the HV station meets: its first breaker, by the end's code; its first place; the first of either, as its place,
-// or 0 if it is a breaker; and how many breakers are on it.
+// The marks that a path to the HV station meets: the first, 0 if there is none, and how many.
 struct Met {
-    trip: u64,
     first: u64,
-    stop: u64,
     count: u64,
 }
 
-// The place on an end if it has one, else what is first beyond it.
-pub fn first_from(marks: &[u64; 1537], code: usize, beyond: u64) -> u64
-    requires { ⌜ code ≤ 1536 ⌝ }
-    ensures { λ r. ⌜ r ≡ orElse (getD (now (marks .entry)) code 0) beyond ⌝ }
+// What a path meets that begins with an end, from what the rest of it meets.
+fn met_from(marks: &[u64; 1537], code: usize, beyond: Met) -> Met
+    requires { ⌜ (code ≤ 1536) × (beyond .count ≤ 4000) ⌝ }
+    ensures met { λ r. ⌜ ((e : End) (es : List End) → endCode e ≡ code → Meets (now (marks .entry)) es beyond
+        → Meets (now (marks .entry)) (e ∷ es) r) ⌝ }
+    ensures few { λ r. ⌜ r .count ≤ beyond .count + 1 ⌝ }
 {
-    let place = marks[code];
-    if place == 0 {
+    let mark = marks[code];
+    if mark == 0 {
         return beyond;
     }
-    place
-}
-
-// What a path meets that begins with an end, from what the rest of it meets.
-fn met_from(net: &buffer::Net, marks: &[u64; 1537], code: usize, beyond: Met) -> Met
-    requires { ⌜ Accepted (networkIn (now net)) × HoldsPlaces (networkIn (now net)) (now marks) × (1 ≤ code) × (code ≤ 2 * length (networkIn (now net) .lines)) × (beyond .count ≤ 9) ⌝ }
-    ensures { λ r. ⌜ ((es : List End) → Meets (networkIn (now (net .entry))) es beyond → Meets (networkIn (now (net .entry))) (codeEnd code ∷ es) r) × (r .count ≤ beyond .count + 1) ⌝ }
-{
-    let first = first_from(marks, code, beyond.first);
-    if buffer::end_state(net, (code + 1) / 2, 2 - code % 2) == 1 {
-        return Met {
-            trip: code as u64,
-            first,
-            stop: 0,
-            count: beyond.count + 1,
-        };
-    }
-    let stop = first_from(marks, code, beyond.stop);
     Met {
-        trip: beyond.trip,
-        first,
-        stop,
-        count: beyond.count,
+        first: mark,
+        count: beyond.count + 1,
     }
 }
 
-// What the path of a station meets that a line feeds; that of an HV station where the line is 0.
+// What the path of the station meets that a line feeds; that of an HV station where the line is 0.
 fn met_beyond(
     net: &buffer::Net,
     sides: &[u64; 768],
     marks: &[u64; 1537],
-    trips: &[u64],
     firsts: &[u64],
-    stops: &[u64],
     counts: &[u64],
     line: usize,
 ) -> Met
-    requires { ⌜ Accepted (networkIn (now net)) × HoldsPlaces (networkIn (now net)) (now marks) × (line ≤ length (networkIn (now net) .lines)) × (1 ≤ line → getD (now sides) (line - 1) 0 ≡ nearEnd (networkIn (now net)) line .side) × (1 ≤ line → Meets (networkIn (now net)) (route (networkIn (now net)) line) (metIn (now trips) (now firsts) (now stops) (now counts) line)) × (length (now trips) ≡ 768) × (length (now firsts) ≡ 768) × (length (now stops) ≡ 768) × (length (now counts) ≡ 768) ⌝ }
-    ensures { λ r. ⌜ Meets (networkIn (now (net .entry))) (pathBeyond (networkIn (now (net .entry))) line) r × (r .count ≤ 9) ⌝ }
+    requires { ⌜ Feeding (networkIn (now net)) (now marks) (now sides) (now firsts) (now counts) line ⌝ }
+    ensures met { λ r. ⌜ Meets (now (marks .entry)) (pathBeyond (networkIn (now (net .entry))) line) r ⌝ }
+    ensures few { λ r. ⌜ r .count ≤ 4000 ⌝ }
 {
     if line == 0 {
-        return Met {
-            trip: 0,
-            first: 0,
-            stop: 0,
-            count: 0,
-        };
+        return Met { first: 0, count: 0 };
     }
     let met = Met {
-        trip: trips[line - 1],
         first: firsts[line - 1],
-        stop: stops[line - 1],
         count: counts[line - 1],
     };
-    // the far end
-    met_from(net, marks, 2 * line + 1 - sides[line - 1] as usize, met)
+    met_from(marks, far_code(net, sides, line), met)
 }
 
 // What the path of a line meets, where the buffers have that of the line that feeds it.
@@ -151,89 +89,149 @@ fn line_met(
     sides: &[u64; 768],
     feeders: &[u64; 768],
     marks: &[u64; 1537],
-    trips: &[u64],
     firsts: &[u64],
-    stops: &[u64],
     counts: &[u64],
     line: usize,
 ) -> Met
-    requires { ⌜ Accepted (networkIn (now net)) × HoldsPlaces (networkIn (now net)) (now marks) × HoldsFeeders (networkIn (now net)) (now sides) (now feeders) × (1 ≤ line) × (line ≤ length (networkIn (now net) .lines)) ⌝ }
-    requires { ⌜ (1 ≤ feeder (networkIn (now net)) line → Meets (networkIn (now net)) (route (networkIn (now net)) (feeder (networkIn (now net)) line)) (metIn (now trips) (now firsts) (now stops) (now counts) (feeder (networkIn (now net)) line))) × (length (now trips) ≡ 768) × (length (now firsts) ≡ 768) × (length (now stops) ≡ 768) × (length (now counts) ≡ 768) ⌝ }
-    ensures { λ r. ⌜ Meets (networkIn (now (net .entry))) (route (networkIn (now (net .entry))) line) r ⌝ }
+    requires { ⌜ Known (networkIn (now net)) (now marks) (now sides) (now feeders) (now firsts) (now counts) line ⌝ }
+    ensures { λ r. ⌜ Meets (now (marks .entry)) (route (networkIn (now (net .entry))) line) r ⌝ }
 {
-    let beyond = met_beyond(
-        net,
-        sides,
-        marks,
-        trips,
-        firsts,
-        stops,
-        counts,
-        feeders[line - 1] as usize,
-    );
-    // the near end
-    met_from(net, marks, 2 * line + sides[line - 1] as usize - 2, beyond)
+    let feeder = feeders[line - 1] as usize;
+    let beyond = met_beyond(net, sides, marks, firsts, counts, feeder);
+    met_from(marks, near_code(net, sides, line), beyond)
 }
 
 // What the path of each line meets, from the HV stations outwards.
-fn lines_outwards(
+fn met_outwards(
     net: &buffer::Net,
     sides: &[u64; 768],
     feeders: &[u64; 768],
     order: &[u64; 768],
     marks: &[u64; 1537],
-    trips: &mut [u64],
     firsts: &mut [u64],
-    stops: &mut [u64],
     counts: &mut [u64],
 )
-    requires { ⌜ Accepted (networkIn (now net)) × Outwards (networkIn (now net)) (now sides) (now feeders) (now order) × HoldsPlaces (networkIn (now net)) (now marks) × (length (now trips) ≡ 768) × (length (now firsts) ≡ 768) × (length (now stops) ≡ 768) × (length (now counts) ≡ 768) ⌝ }
-    ensures { λ r. ⌜ HoldsLines (networkIn (now (net .entry))) (now (trips .exit)) (now (firsts .exit)) (now (stops .exit)) (now (counts .exit)) ⌝ }
+    requires { ⌜ Read (networkIn (now net)) × Rules (networkIn (now net))
+        × Outwards (networkIn (now net)) (now sides) (now feeders) (now order) ⌝ }
+    requires { ⌜ (length (now firsts) ≡ 768) × (length (now counts) ≡ 768) ⌝ }
+    ensures { λ r. ⌜ HoldsMet (networkIn (now (net .entry))) (now (marks .entry)) (now (firsts .exit)) (now (counts .exit)) ⌝ }
 {
     for i in 0..buffer::line_count(net) {
         let line = order[i] as usize;
-        let met = line_met(
-            net,
-            sides,
-            feeders,
-            marks,
-            trips,
-            firsts,
-            stops,
-            counts,
-            line,
-        );
-        trips[line - 1] = met.trip;
+        let met = line_met(net, sides, feeders, marks, firsts, counts, line);
         firsts[line - 1] = met.first;
-        stops[line - 1] = met.stop;
         counts[line - 1] = met.count;
     }
 }
 
-// What the path of each line meets first, a breaker, a place, either of the two; and how many breakers are on it.
-pub fn fill_lines(
+// The code of the breaker that trips for each line, and how many breakers are on its path.
+pub fn fill_breakers(
     net: &buffer::Net,
     sides: &[u64; 768],
     feeders: &[u64; 768],
     order: &[u64; 768],
-    marks: &[u64; 1537],
     trips: &mut [u64; 768],
-    firsts: &mut [u64; 768],
-    stops: &mut [u64; 768],
     counts: &mut [u64; 768],
 )
-    requires { ⌜ Accepted (networkIn (now net)) × Outwards (networkIn (now net)) (now sides) (now feeders) (now order) × HoldsPlaces (networkIn (now net)) (now marks) ⌝ }
-    ensures { λ r. ⌜ HoldsLines (networkIn (now (net .entry))) (now (trips .exit)) (now (firsts .exit)) (now (stops .exit)) (now (counts .exit)) ⌝ }
+    requires { ⌜ Read (networkIn (now net)) × Rules (networkIn (now net))
+        × Outwards (networkIn (now net)) (now sides) (now feeders) (now order) ⌝ }
+    ensures trips { λ r. ⌜ HoldsTrips (networkIn (now (net .entry))) (now (trips .exit)) ⌝ }
+    ensures counts { λ r. ⌜ HoldsCounts (networkIn (now (net .entry))) (now (counts .exit)) ⌝ }
 {
-    lines_outwards(
-        net,
-        sides,
-        feeders,
-        order,
-        marks,
-        trips,
-        firsts,
-        stops,
-        counts,
-    );
+    let mut breakers = marks::space();
+    marks::fill_breakers(net, &mut breakers);
+    met_outwards(net, sides, feeders, order, &breakers, trips, counts);
+}
+
+// Room for a number of each line.
+pub fn lines_space() -> [u64; 768] {
+    [0; 768]
+}
+
+// The first place on the path of each line, by the marks of the places.
+pub fn fill_firsts(
+    net: &buffer::Net,
+    sides: &[u64; 768],
+    feeders: &[u64; 768],
+    order: &[u64; 768],
+    places: &[u64; 1537],
+    firsts: &mut [u64; 768],
+)
+    requires { ⌜ Read (networkIn (now net)) × Rules (networkIn (now net))
+        × Outwards (networkIn (now net)) (now sides) (now feeders) (now order)
+        × HoldsPlaces (networkIn (now net)) (now places) ⌝ }
+    ensures { λ r. ⌜ HoldsFirsts (networkIn (now (net .entry))) (now (firsts .exit)) ⌝ }
+{
+    let mut counts = lines_space();
+    met_outwards(net, sides, feeders, order, places, firsts, &mut counts);
+}
+
+// The mark on an end if it has one, else what is first beyond it.
+fn first_from(marks: &[u64; 1537], code: usize, beyond: u64) -> u64
+    requires { ⌜ code ≤ 1536 ⌝ }
+    ensures { λ r. ⌜ r ≡ orElse (getD (now (marks .entry)) code 0) beyond ⌝ }
+{
+    let own = marks[code];
+    if own == 0 {
+        return beyond;
+    }
+    own
+}
+
+// The first mark on the path of the station that a line feeds: that on the line's far end, else the first on the line's path.
+pub fn first_beyond(
+    net: &buffer::Net,
+    sides: &[u64; 768],
+    marks: &[u64; 1537],
+    firsts: &[u64; 768],
+    line: usize,
+) -> u64
+    requires { ⌜ Read (networkIn (now net)) × Rules (networkIn (now net)) × HoldsSides (networkIn (now net)) (now sides)
+        × LineThere (now net) line ⌝ }
+    ensures { λ r. ⌜ r ≡ orElse (markAt (now (marks .entry)) (far (nearEnd (networkIn (now (net .entry))) line)))
+        (getD (now (firsts .entry)) (line - 1) 0) ⌝ }
+{
+    first_from(marks, far_code(net, sides, line), firsts[line - 1])
+}
+
+// The breakers on the path of the station that a line feeds: those on the line's, and its far end if that is one.
+pub fn count_beyond(net: &buffer::Net, sides: &[u64; 768], counts: &[u64; 768], line: usize) -> u64
+    requires { ⌜ Read (networkIn (now net)) × Rules (networkIn (now net)) × HoldsSides (networkIn (now net)) (now sides)
+        × HoldsCounts (networkIn (now net)) (now counts) × LineThere (now net) line ⌝ }
+    ensures { λ r. ⌜ r ≡ breakersOn (networkIn (now (net .entry))) (farRoute (networkIn (now (net .entry))) line) ⌝ }
+{
+    if buffer::is_breaker(net, line, 3 - sides[line - 1] as usize) {
+        counts[line - 1] + 1
+    } else {
+        counts[line - 1]
+    }
+}
+
+// The larger of two numbers.
+pub fn larger(a: u64, b: u64) -> u64
+    ensures { λ r. ⌜ r ≡ max a b ⌝ }
+{
+    if a < b { b } else { a }
+}
+
+// The most breakers on a path from an HV station.
+pub fn most_in_series(net: &buffer::Net, sides: &[u64; 768], counts: &[u64; 768]) -> u64
+    requires { ⌜ Read (networkIn (now net)) × Rules (networkIn (now net)) × HoldsSides (networkIn (now net)) (now sides)
+        × HoldsCounts (networkIn (now net)) (now counts) ⌝ }
+    ensures { λ r. ⌜ r ≡ mostInSeries (networkIn (now (net .entry))) ⌝ }
+{
+    let mut most: u64 = 0;
+    for line in 1..buffer::line_count(net) + 1 {
+        most = larger(most, count_beyond(net, sides, counts, line));
+    }
+    most
+}
+
+// Whether a path from an HV station passes more breakers than the series rule allows.
+pub fn over_series(net: &buffer::Net, sides: &[u64; 768], counts: &[u64; 768]) -> bool
+    requires { ⌜ Read (networkIn (now net)) × Rules (networkIn (now net)) × HoldsSides (networkIn (now net)) (now sides)
+        × HoldsCounts (networkIn (now net)) (now counts) ⌝ }
+    ensures { λ r. ⌜ r ≡ seriesBroken (networkIn (now (net .entry))) ⌝ }
+{
+    buffer::series(net) < most_in_series(net, sides, counts)
 }

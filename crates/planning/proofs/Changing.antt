@@ -21,8 +21,8 @@ use Rattle.buffer.specs.Fits.{PlaceThere, EndThere}
 use Rattle.network_changes.specs.Changed.{withState, breaker-is-state}
 use Rattle.tree.specs.Outwards.{firstEnd, nearEnd, secondLine, feeder, Outwards}
 use Rattle.outage.specs.Held.{HoldsCustomers}
-use Rattle.outage.proofs.Calls.{read-fits}
-use Rattle.paths.proofs.Marking.{place-fits}
+use Rattle.tree.proofs.Fitting.{read-fits}
+use Rattle.marks.proofs.Marking.{place-fits}
 
 -- breakers change no place
 places-same : (S : List ℕ) (N : Network) → withBreakers N S .places ≡ N .places

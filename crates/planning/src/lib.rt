@@ -19,7 +19,8 @@ ghost use Rattle.starts.specs.Outlook.{Outlook};
 ghost use Rattle.tree.specs.Outwards.{Outwards};
 ghost use Rattle.loading.specs.Loading.{Prepared};
 ghost use Rattle.relations.specs.Related.{HoldsRelations};
-ghost use Rattle.paths.specs.Held.{HoldsEnds};
+ghost use Rattle.marks.specs.Held.{HoldsEnds};
+ghost use Rattle.paths.specs.Held.{HoldsTrips, HoldsCounts};
 ghost use Rattle.relations.specs.Lists.{HoldsLists};
 ghost use Rattle.planning.specs.Planned.{planFound};
 use amounts::Total;
@@ -39,15 +40,10 @@ fn relations_space() -> [u64; 4225] {
 }
 
 // Room for what a walk changes in its outlook.
-fn saved_space() -> [u64; 3120]
+fn rows_space() -> [u64; 3120]
     ensures { λ r. ⌜ length r ≡ 3120 ⌝ }
 {
     [0; 3120]
-}
-
-// Room for a number of each end, by its code.
-fn marks_space() -> [u64; 1537] {
-    [0; 1537]
 }
 
 // The relations of the places, the later ones that each is related to, the codes of their ends, and the outlook of the empty set.
@@ -56,42 +52,36 @@ fn prepare(
     sides: &[u64; 768],
     feeders: &[u64; 768],
     order: &[u64; 768],
+    trips: &[u64; 768],
+    counts: &[u64; 768],
     relations: &mut [u64; 4225],
     lists: &mut [u64; 4225],
     ends: &mut [u64; 65],
     outlook: &mut [u64; 195],
 )
-    requires { ⌜ Accepted (networkIn (now net)) × Outwards (networkIn (now net)) (now sides) (now feeders) (now order) ⌝ }
-    ensures { λ r. ⌜ HoldsRelations (networkIn (now (net .entry))) (now (relations .exit)) × HoldsLists (now (relations .exit)) (now (lists .exit)) (length (networkIn (now (net .entry)) .places)) × HoldsEnds (networkIn (now (net .entry))) (now (ends .exit)) × Outlook (networkIn (now (net .entry))) [] 1 (now (outlook .exit)) × (length (now (outlook .exit)) ≡ 195) ⌝ }
+    requires { ⌜ Accepted (networkIn (now net)) × Outwards (networkIn (now net)) (now sides) (now feeders) (now order)
+        × HoldsTrips (networkIn (now net)) (now trips) × HoldsCounts (networkIn (now net)) (now counts) ⌝ }
+    ensures related { λ r. ⌜ HoldsRelations (networkIn (now (net .entry))) (now (relations .exit)) ⌝ }
+    ensures listed { λ r. ⌜ HoldsLists (now (relations .exit)) (now (lists .exit))
+        (length (networkIn (now (net .entry)) .places)) ⌝ }
+    ensures coded { λ r. ⌜ HoldsEnds (networkIn (now (net .entry))) (now (ends .exit)) ⌝ }
+    ensures start { λ r. ⌜ Outlook (networkIn (now (net .entry))) [] 1 (now (outlook .exit))
+        × (length (now (outlook .exit)) ≡ 195) ⌝ }
 {
-    let mut marks = marks_space();
-    let mut trips = loading::lines_space();
-    let mut firsts = loading::lines_space();
-    let mut stops = loading::lines_space();
-    let mut counts = loading::lines_space();
-    paths::fill_ends(net, ends);
-    paths::fill_places(net, &mut marks);
-    paths::fill_lines(
-        net,
-        sides,
-        feeders,
-        order,
-        &marks,
-        &mut trips,
-        &mut firsts,
-        &mut stops,
-        &mut counts,
-    );
-    relations::fill_relations(net, sides, feeders, &marks, &firsts, relations);
+    let mut places = marks::space();
+    let mut firsts = paths::lines_space();
+    marks::fill_ends(net, ends);
+    marks::fill_places(net, &mut places);
+    paths::fill_firsts(net, sides, feeders, order, &places, &mut firsts);
+    relations::fill_relations(net, sides, feeders, &places, &firsts, relations);
     relations::fill_lists(relations, buffer::place_count(net), lists);
     starts::start_outlook(
         net,
         sides,
-        &marks,
-        &trips,
+        &places,
+        trips,
+        counts,
         &firsts,
-        &stops,
-        &counts,
         relations,
         outlook,
     );
@@ -106,7 +96,8 @@ fn network_bounds(
     outlook: &[u64; 195],
     bounds: &mut [u64; 1105],
 )
-    requires { ⌜ Tables (networkIn (now net)) (now relations) (now ends) (now sums) × Outlook (networkIn (now net)) [] 1 (now outlook) × (length (now bounds) ≡ 1105) ⌝ }
+    requires { ⌜ Tables (networkIn (now net)) (now relations) (now ends) (now sums)
+        × Outlook (networkIn (now net)) [] 1 (now outlook) × (length (now bounds) ≡ 1105) ⌝ }
     ensures { λ r. ⌜ HoldsBounds (networkIn (now (net .entry))) (now (bounds .exit)) ⌝ }
 {
     let mut savings = [0u64; 64];
@@ -121,11 +112,16 @@ fn best_set(
     sides: &[u64; 768],
     feeders: &[u64; 768],
     order: &[u64; 768],
+    trips: &[u64; 768],
+    counts: &[u64; 768],
     sums: &[u64; 768],
     best: &mut [u64; 16],
 ) -> Progress
-    requires { ⌜ Accepted (networkIn (now net)) × Outwards (networkIn (now net)) (now sides) (now feeders) (now order) × HoldsCustomers (networkIn (now net)) (now sums) ⌝ }
-    ensures { λ r. ⌜ (foundIn (networkIn (now (net .entry))) r (now (best .exit)) ≡ search (networkIn (now (net .entry)))) × (length (now (best .exit)) ≡ 16) × (r .count ≤ 16) ⌝ }
+    requires { ⌜ Accepted (networkIn (now net)) × Outwards (networkIn (now net)) (now sides) (now feeders) (now order) ⌝ }
+    requires { ⌜ HoldsTrips (networkIn (now net)) (now trips) × HoldsCounts (networkIn (now net)) (now counts)
+        × HoldsCustomers (networkIn (now net)) (now sums) ⌝ }
+    ensures { λ r. ⌜ (foundIn (networkIn (now (net .entry))) r (now (best .exit)) ≡ search (networkIn (now (net .entry))))
+        × (length (now (best .exit)) ≡ 16) × (r .count ≤ 16) ⌝ }
 {
     let mut relations = relations_space();
     let mut lists = relations_space();
@@ -136,6 +132,8 @@ fn best_set(
         sides,
         feeders,
         order,
+        trips,
+        counts,
         &mut relations,
         &mut lists,
         &mut ends,
@@ -143,7 +141,7 @@ fn best_set(
     );
     let mut bounds = [0u64; 1105];
     network_bounds(net, &relations, &ends, sums, &outlook, &mut bounds);
-    let mut saved = saved_space();
+    let mut rows = rows_space();
     let mut set = [0u64; 16];
     *best = [0u64; 16];
     search::walk(
@@ -154,7 +152,7 @@ fn best_set(
         sums,
         &bounds,
         &mut outlook,
-        &mut saved,
+        &mut rows,
         &mut set,
         best,
     )
@@ -170,7 +168,8 @@ fn add_breaker(net: &mut buffer::Net, line: usize, side: usize)
 
 // Adds a breaker at each of the first `count` places of a set.
 fn add_breakers(net: &mut buffer::Net, set: &[u64; 16], count: usize)
-    requires { ⌜ Read (networkIn (now net)) × (length (now set) ≡ 16) × (count ≤ 16) × Sublistᴰ (take count (now set)) (placeNumbers (networkIn (now net))) ⌝ }
+    requires { ⌜ Read (networkIn (now net)) × (length (now set) ≡ 16) × (count ≤ 16)
+        × Sublistᴰ (take count (now set)) (placeNumbers (networkIn (now net))) ⌝ }
     ensures { λ _. ⌜ networkIn (now (net .exit)) ≡ withBreakers (networkIn (now (net .entry))) (take count (now (set .entry))) ⌝ }
 {
     for i in 0..count {
@@ -191,14 +190,17 @@ fn total_with(
     set: &[u64; 16],
     count: usize,
 ) -> Total
-    requires { ⌜ Accepted (networkIn (now net)) × Outwards (networkIn (now net)) (now sides) (now feeders) (now order) × HoldsCustomers (networkIn (now net)) (now sums) × (length (now set) ≡ 16) × (count ≤ 16) × Sublistᴰ (take count (now set)) (placeNumbers (networkIn (now net))) ⌝ }
+    requires { ⌜ Accepted (networkIn (now net)) × Outwards (networkIn (now net)) (now sides) (now feeders) (now order)
+        × HoldsCustomers (networkIn (now net)) (now sums) ⌝ }
+    requires { ⌜ (length (now set) ≡ 16) × (count ≤ 16) × Sublistᴰ (take count (now set)) (placeNumbers (networkIn (now net))) ⌝ }
     ensures { λ r. ⌜ r .0 ≡ setTotal (networkIn (now (net .entry))) (take count (now (set .entry))) ⌝ }
 {
     let mut changed = *net;
     add_breakers(&mut changed, set, count);
-    let mut trips = loading::lines_space();
-    outage::trips(&changed, sides, feeders, order, &mut trips);
-    let mut impacts = loading::lines_space();
+    let mut trips = paths::lines_space();
+    let mut counts = paths::lines_space();
+    paths::fill_breakers(&changed, sides, feeders, order, &mut trips, &mut counts);
+    let mut impacts = paths::lines_space();
     outage::impacts(&changed, &trips, sums, &mut impacts);
     outage::total_of(&changed, &impacts)
 }
@@ -210,13 +212,18 @@ pub fn best_plan(
     sides: &[u64; 768],
     feeders: &[u64; 768],
     order: &[u64; 768],
+    trips: &[u64; 768],
+    counts: &[u64; 768],
     sums: &[u64; 768],
     best: &mut [u64; 16],
 ) -> Plan
-    requires { ⌜ Accepted (networkIn (now net)) × Outwards (networkIn (now net)) (now sides) (now feeders) (now order) × HoldsCustomers (networkIn (now net)) (now sums) ⌝ }
-    ensures { λ r. ⌜ (planFound r (now (best .exit)) ≡ search (networkIn (now (net .entry)))) × (length (now (best .exit)) ≡ 16) × (r .count ≤ 16) ⌝ }
+    requires { ⌜ Accepted (networkIn (now net)) × Outwards (networkIn (now net)) (now sides) (now feeders) (now order) ⌝ }
+    requires { ⌜ HoldsTrips (networkIn (now net)) (now trips) × HoldsCounts (networkIn (now net)) (now counts)
+        × HoldsCustomers (networkIn (now net)) (now sums) ⌝ }
+    ensures { λ r. ⌜ (planFound r (now (best .exit)) ≡ search (networkIn (now (net .entry)))) × (length (now (best .exit)) ≡ 16)
+        × (r .count ≤ 16) ⌝ }
 {
-    let found = best_set(net, sides, feeders, order, sums, best);
+    let found = best_set(net, sides, feeders, order, trips, counts, sums, best);
     let total = total_with(net, sides, feeders, order, sums, best, found.count);
     Plan {
         total,
@@ -234,12 +241,16 @@ pub fn search_network(
     sides: &[u64; 768],
     feeders: &[u64; 768],
     order: &[u64; 768],
+    trips: &[u64; 768],
+    counts: &[u64; 768],
     best: &mut [u64; 16],
 ) -> Plan
-    requires { ⌜ Accepted (networkIn (now net)) × Prepared (networkIn (now net)) (now chains) (now nexts) (now sides) (now feeders) (now order) ⌝ }
-    ensures { λ r. ⌜ (planFound r (now (best .exit)) ≡ search (networkIn (now (net .entry)))) × (length (now (best .exit)) ≡ 16) × (r .count ≤ 16) ⌝ }
+    requires { ⌜ Accepted (networkIn (now net)) × Prepared (networkIn (now net)) (now chains) (now nexts) (now sides)
+        (now feeders) (now order) (now trips) (now counts) ⌝ }
+    ensures { λ r. ⌜ (planFound r (now (best .exit)) ≡ search (networkIn (now (net .entry)))) × (length (now (best .exit)) ≡ 16)
+        × (r .count ≤ 16) ⌝ }
 {
-    let mut sums = loading::lines_space();
+    let mut sums = paths::lines_space();
     outage::customers_behind(net, chains, nexts, &mut sums);
-    best_plan(net, sides, feeders, order, &sums, best)
+    best_plan(net, sides, feeders, order, trips, counts, &sums, best)
 }

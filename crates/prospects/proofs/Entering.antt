@@ -27,17 +27,17 @@ pub row-wide : {lists : List ℕ} {q m end : ℕ} → end ≤ 65 → Row lists q
 row-wide h r = record { few = omega (arith, r .few); later = λ i a b. (r .later i a b .0, omega (arith, r .later i a b .1)); rising = r .rising }
 
 -- the places listed before index i are written
-pub record Written (N : Network) (lists S : List ℕ) (size last : ℕ) (outlook₀ saved₀ : List ℕ) (i end : ℕ) (outlook saved : List ℕ) : Type 0 where
+pub record Written (N : Network) (lists S : List ℕ) (size last : ℕ) (outlook₀ rows₀ : List ℕ) (i end : ℕ) (outlook rows : List ℕ) : Type 0 where
   pub low : 1 ≤ i
   pub within : i ≤ end
   pub all : end ≡ many lists last + 1
   pub outlookLong : length outlook ≡ 195
-  pub savedLong : length saved ≡ 3120
-  pub changed : Changed lists last (size * 195) 1 i outlook₀ outlook saved
+  pub rowsLong : length rows ≡ 3120
+  pub changed : Changed lists last (size * 195) 1 i outlook₀ outlook rows
   pub values : (j : ℕ) → 1 ≤ j → j < i → Values N S (listed lists last j) outlook
-  pub below : SameUpTo (size * 195) saved₀ saved
+  pub below : SameUpTo (size * 195) rows₀ rows
 
-module _ {N : Network} {relations ends lists outlook₀ saved₀ S : List ℕ} {size last : ℕ} (x : Entering N relations ends lists outlook₀ saved₀ S size last) where
+module _ {N : Network} {relations ends lists outlook₀ rows₀ S : List ℕ} {size last : ℕ} (x : Entering N relations ends lists outlook₀ rows₀ S size last) where
   places-few : length (N .places) ≤ 64
   places-few = x .chosen .accepted .read .placeCount
 
@@ -50,19 +50,19 @@ module _ {N : Network} {relations ends lists outlook₀ saved₀ S : List ℕ} {
   pub last-few : last ≤ 64
   last-few = omega (arith, x .chosen .high, places-few)
 
-  pub written-none : (end : ℕ) → end ≡ many lists last + 1 → Written N lists S size last outlook₀ saved₀ 1 end outlook₀ saved₀
+  pub written-none : (end : ℕ) → end ≡ many lists last + 1 → Written N lists S size last outlook₀ rows₀ 1 end outlook₀ rows₀
   written-none end e = record {
     low = omega arith;
     within = omega arith;
     all = e;
     outlookLong = x .outlookLong;
-    savedLong = x .savedLong;
+    rowsLong = x .rowsLong;
     changed = changed-none row;
     values = λ j a b. absurd (omega arith);
     below = λ k h. refl;
   }
 
-  module _ {i end : ℕ} {outlook saved : List ℕ} (w : Written N lists S size last outlook₀ saved₀ i end outlook saved) where
+  module _ {i end : ℕ} {outlook rows : List ℕ} (w : Written N lists S size last outlook₀ rows₀ i end outlook rows) where
     module _ (h : i < end) where
       abbrev place : ℕ
       place = listed lists last i
@@ -91,14 +91,14 @@ module _ {N : Network} {relations ends lists outlook₀ saved₀ S : List ℕ} {
             );
           }
 
-      pub written-more : {n v m : ℕ} {outlook' saved' : List ℕ} → n ≡ endCode (upstreamAt N S (endAt N place)) → v ≡ weightAt N S (endAt N place) → m ≡ inSeriesAt N S (endAt N place)
-          → Keeping outlook (size * 195) place saved saved' → Put place n v m outlook outlook' → Written N lists S size last outlook₀ saved₀ (i + 1) end outlook' saved'
+      pub written-more : {n v m : ℕ} {outlook' rows' : List ℕ} → n ≡ endCode (upstreamAt N S (endAt N place)) → v ≡ weightAt N S (endAt N place) → m ≡ inSeriesAt N S (endAt N place)
+          → Keeping outlook (size * 195) place rows rows' → Put place n v m outlook outlook' → Written N lists S size last outlook₀ rows₀ (i + 1) end outlook' rows'
       written-more en ev em k p = record {
         low = omega arith;
         within = omega arith;
         all = w .all;
         outlookLong = p .long;
-        savedLong = k .long;
+        rowsLong = k .long;
         changed = changed-more row (w .low) high (w .changed) k p;
         values = λ j a b. ⊎-elim
             (λ e. rw e (record { upstream = p .upstream ∙ en; weight = p .weight ∙ ev; in-series = p .in-series ∙ em }))
@@ -108,12 +108,12 @@ module _ {N : Network} {relations ends lists outlook₀ saved₀ S : List ℕ} {
       }
 
     -- all of them are, and the others are not related to the last member
-    pub written-all : end ≤ i → Entered N lists S size last outlook₀ outlook saved₀ saved
+    pub written-all : end ≤ i → Entered N lists S size last outlook₀ outlook rows₀ rows
     written-all h = record {
       outlookLong = w .outlookLong;
-      savedLong = w .savedLong;
+      rowsLong = w .rowsLong;
       own = λ p a b. at p a b (ℕ-discrete (getD relations (last * 65 + p) 0) 0);
-      changed = subst (λ e. Changed lists last (size * 195) 1 e outlook₀ outlook saved) (omega (arith, w .all, w .within)) (w .changed);
+      changed = subst (λ e. Changed lists last (size * 195) 1 e outlook₀ outlook rows) (omega (arith, w .all, w .within)) (w .changed);
       below = w .below;
     }
       where

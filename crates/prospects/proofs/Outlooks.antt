@@ -17,7 +17,7 @@ use Rattle.sets.specs.Ways.{has}
 use Rattle.sets.specs.InSeries.{most-less}
 use Rattle.sets.specs.Sets.{upstreamAt, weightAt, inSeriesAt, series-set}
 use Rattle.relations.specs.Related.{relation}
-use Rattle.paths.specs.Held.{HoldsEnds}
+use Rattle.marks.specs.Held.{HoldsEnds}
 use Rattle.starts.specs.Outlook.{Values}
 use Rattle.prospects.specs.Chosen.{Chosen, Without, Pending, Later}
 use Rattle.prospects.proofs.Upstream.{before-valid}

@@ -42,16 +42,16 @@ pub record Saved (N : Network) (i end : ℕ) (savings : List ℕ) : Type 0 where
   pub long : length savings ≡ 64
   pub same : take i savings ≡ map (λ p. saving N p) (numbers 1 i)
 
-pub saved-none : (N : Network) (end : ℕ) (savings : List ℕ) → Accepted N → end ≡ length (N .places) → length savings ≡ 64 → Saved N 0 end savings
+pub rows-none : (N : Network) (end : ℕ) (savings : List ℕ) → Accepted N → end ≡ length (N .places) → length savings ≡ 64 → Saved N 0 end savings
 unfolding numbers
-saved-none N end savings a e l = record { within = omega arith; all = e; few = omega (arith, a .read .placeCount); long = l; same = refl }
+rows-none N end savings a e l = record { within = omega arith; all = e; few = omega (arith, a .read .placeCount); long = l; same = refl }
 
 module _ (N : Network) {i end : ℕ} {savings : List ℕ} (s : Saved N i end savings) where
   pub next-later : i < end → (relations outlook : List ℕ) → Accepted N → HoldsRelations N relations → Outlook N [] 1 outlook → Later N relations outlook [] 0 (i + 1)
   next-later h relations outlook a r l = later-of (chosen-none N relations a r) (inl (refl, l)) (i + 1) (omega arith) (omega (arith, s .all))
 
-  pub saved-more : (v : ℕ) → i < end → v ≡ saving N (i + 1) → Saved N (i + 1) end (set savings i v)
-  saved-more v h e =
+  pub rows-more : (v : ℕ) → i < end → v ≡ saving N (i + 1) → Saved N (i + 1) end (set savings i v)
+  rows-more v h e =
       let f : ℕ → ℕ = λ p. saving N p in
       record {
         within = omega arith;
@@ -64,8 +64,8 @@ module _ (N : Network) {i end : ℕ} {savings : List ℕ} (s : Saved N i end sav
             ∙ sym (ap (λ n. map f (numbers 1 n)) (add-one i) ∙ ap (map f) (numbers-last 1 i) ∙ map-last f (numbers 1 i) (1 + i));
       }
 
-  pub saved-all : end ≤ i → (length savings ≡ 64) × (take (length (N .places)) savings ≡ map (λ p. saving N p) (placeNumbers N))
+  pub rows-all : end ≤ i → (length savings ≡ 64) × (take (length (N .places)) savings ≡ map (λ p. saving N p) (placeNumbers N))
   unfolding placeNumbers
-  saved-all h =
+  rows-all h =
       let e : length (N .places) ≡ i = omega (arith, s .all, s .within) in
       (s .long, ap (λ n. take n savings) e ∙ s .same ∙ ap (λ n. map (λ p. saving N p) (numbers 1 n)) (sym e))

@@ -47,9 +47,9 @@ put-is {outlook} {p} a b c n h = record {
 }
 
 -- they are kept
-pub keep-is : {outlook saved : List ℕ} {start p : ℕ} → length saved ≡ 3120 → start + 195 ≤ 3120 → p ≤ 64
-    → Keeping outlook start p saved (set (set (set saved (start + p) (getD outlook p 0)) (start + 65 + p) (getD outlook (65 + p) 0)) (start + 130 + p) (getD outlook (130 + p) 0))
-keep-is {outlook} {saved} {start} {p} n m h =
+pub keep-is : {outlook rows : List ℕ} {start p : ℕ} → length rows ≡ 3120 → start + 195 ≤ 3120 → p ≤ 64
+    → Keeping outlook start p rows (set (set (set rows (start + p) (getD outlook p 0)) (start + 65 + p) (getD outlook (65 + p) 0)) (start + 130 + p) (getD outlook (130 + p) 0))
+keep-is {outlook} {rows} {start} {p} n m h =
     let i : ℕ = start + p in
     let j : ℕ = start + 65 + p in
     let k : ℕ = start + 130 + p in
@@ -57,14 +57,14 @@ keep-is {outlook} {saved} {start} {p} n m h =
     let b : ℕ = getD outlook (65 + p) 0 in
     let c : ℕ = getD outlook (130 + p) 0 in
     record {
-      long = set3-long saved i j k a b c ∙ n;
-      kept = (set3-first saved i j k a b c (omega arith) (omega arith) (omega arith), set3-second saved i j k a b c (omega arith) (omega arith) (omega arith), set3-third saved i j k a b c (omega arith) (omega arith) (omega arith));
+      long = set3-long rows i j k a b c ∙ n;
+      kept = (set3-first rows i j k a b c (omega arith) (omega arith) (omega arith), set3-second rows i j k a b c (omega arith) (omega arith) (omega arith), set3-third rows i j k a b c (omega arith) (omega arith) (omega arith));
       others = λ old q f d o. (
-        set3-other saved i j k a b c (start + q) (λ e. d (omega arith)) (λ e. omega arith) (λ e. omega arith) ∙ o .0,
-        set3-other saved i j k a b c (start + 65 + q) (λ e. omega arith) (λ e. d (omega arith)) (λ e. omega arith) ∙ o .1,
-        set3-other saved i j k a b c (start + 130 + q) (λ e. omega arith) (λ e. omega arith) (λ e. d (omega arith)) ∙ o .2,
+        set3-other rows i j k a b c (start + q) (λ e. d (omega arith)) (λ e. omega arith) (λ e. omega arith) ∙ o .0,
+        set3-other rows i j k a b c (start + 65 + q) (λ e. omega arith) (λ e. d (omega arith)) (λ e. omega arith) ∙ o .1,
+        set3-other rows i j k a b c (start + 130 + q) (λ e. omega arith) (λ e. omega arith) (λ e. d (omega arith)) ∙ o .2,
       );
-      below = λ q f. set3-other saved i j k a b c q (λ e. omega arith) (λ e. omega arith) (λ e. omega arith);
+      below = λ q f. set3-other rows i j k a b c q (λ e. omega arith) (λ e. omega arith) (λ e. omega arith);
     }
 
 same-trans : (old mid new : List ℕ) (p : ℕ) → Same old mid p → Same mid new p → Same old new p
@@ -72,17 +72,17 @@ same-trans old mid new p a b = (b .0 ∙ a .0, b .1 ∙ a .1, b .2 ∙ a .2)
 
 module _ {lists : List ℕ} {q m start : ℕ} (row : Row lists q m 65) where
   -- nothing is changed yet
-  pub changed-none : {outlook saved : List ℕ} → Changed lists q start 1 1 outlook outlook saved
+  pub changed-none : {outlook rows : List ℕ} → Changed lists q start 1 1 outlook outlook rows
   changed-none = record { same = λ p h n. (refl, refl, refl); kept = λ i a b. absurd (omega arith) }
 
   -- one place more
-  module _ {i : ℕ} {old outlook outlook' saved saved' : List ℕ} {x y z : ℕ} (low : 1 ≤ i) (high : i ≤ m)
-      (c : Changed lists q start 1 i old outlook saved) (k : Keeping outlook start (listed lists q i) saved saved') (p : Put (listed lists q i) x y z outlook outlook') where
+  module _ {i : ℕ} {old outlook outlook' rows rows' : List ℕ} {x y z : ℕ} (low : 1 ≤ i) (high : i ≤ m)
+      (c : Changed lists q start 1 i old outlook rows) (k : Keeping outlook start (listed lists q i) rows rows') (p : Put (listed lists q i) x y z outlook outlook') where
     -- it is still as it was
     still : Same old outlook (listed lists q i)
     still = c .same (listed lists q i) (omega (arith, row .later i low high)) (λ j a b e. omega (arith, row .rising j i a b high))
 
-    pub changed-more : Changed lists q start 1 (i + 1) old outlook' saved'
+    pub changed-more : Changed lists q start 1 (i + 1) old outlook' rows'
     changed-more = record {
       same = λ r h n. same-trans old outlook outlook' r (c .same r h (λ j a b. n j a (omega arith))) (p .others r h (λ e. n i low (omega arith) (sym e)));
       kept = λ j a b. ⊎-elim
@@ -92,10 +92,10 @@ module _ {lists : List ℕ} {q m start : ℕ} (row : Row lists q m 65) where
     }
 
   -- one place is put back
-  pub changed-less : {i : ℕ} {old outlook outlook' saved : List ℕ} → 1 ≤ i → i ≤ m
-      → Put (listed lists q i) (getD saved (start + listed lists q i) 0) (getD saved (start + 65 + listed lists q i) 0) (getD saved (start + 130 + listed lists q i) 0) outlook outlook'
-      → Changed lists q start i (m + 1) old outlook saved → Changed lists q start (i + 1) (m + 1) old outlook' saved
-  changed-less {i} {old} {outlook} {outlook'} {saved} low high p c = record {
+  pub changed-less : {i : ℕ} {old outlook outlook' rows : List ℕ} → 1 ≤ i → i ≤ m
+      → Put (listed lists q i) (getD rows (start + listed lists q i) 0) (getD rows (start + 65 + listed lists q i) 0) (getD rows (start + 130 + listed lists q i) 0) outlook outlook'
+      → Changed lists q start i (m + 1) old outlook rows → Changed lists q start (i + 1) (m + 1) old outlook' rows
+  changed-less {i} {old} {outlook} {outlook'} {rows} low high p c = record {
     same = λ r h n. at r h n (ℕ-discrete r (listed lists q i));
     kept = λ j a b. c .kept j (omega arith) b;
   }
@@ -108,7 +108,7 @@ module _ {lists : List ℕ} {q m start : ℕ} (row : Row lists q m 65) where
       at r h n (no d) = same-trans old outlook outlook' r (c .same r h (λ j a b e. ⊎-elim (λ k. d (sym e ∙ ap (listed lists q) (sym k))) (λ k. n j (omega arith) b e) (eq-or-lt-of-le {n = i} {m = j} a))) (p .others r h d)
 
   -- what is kept stays while the rows after it change
-  pub changed-kept : {b : ℕ} {old outlook saved saved' : List ℕ} → b ≤ m + 1 → SameUpTo (start + 195) saved saved' → Changed lists q start 1 b old outlook saved → Changed lists q start 1 b old outlook saved'
+  pub changed-kept : {b : ℕ} {old outlook rows rows' : List ℕ} → b ≤ m + 1 → SameUpTo (start + 195) rows rows' → Changed lists q start 1 b old outlook rows → Changed lists q start 1 b old outlook rows'
   changed-kept w s c = record {
     same = c .same;
     kept = λ i a h.
@@ -118,8 +118,8 @@ module _ {lists : List ℕ} {q m start : ℕ} (row : Row lists q m 65) where
   }
 
 -- nothing is changed any more
-pub changed-back : {lists : List ℕ} {q start a b : ℕ} {old outlook saved : List ℕ} → b ≤ a → length old ≡ 195 → length outlook ≡ 195 → Changed lists q start a b old outlook saved → outlook ≡ old
-changed-back {lists} {q} {start} {a} {b} {old} {outlook} {saved} d m n c = ext-getD 0 outlook old (n ∙ sym m) (λ i h. go i (omega arith) (decLt i 65) (decLt i 130))
+pub changed-back : {lists : List ℕ} {q start a b : ℕ} {old outlook rows : List ℕ} → b ≤ a → length old ≡ 195 → length outlook ≡ 195 → Changed lists q start a b old outlook rows → outlook ≡ old
+changed-back {lists} {q} {start} {a} {b} {old} {outlook} {rows} d m n c = ext-getD 0 outlook old (n ∙ sym m) (λ i h. go i (omega arith) (decLt i 65) (decLt i 130))
   where
     all : (p : ℕ) → p ≤ 64 → Same old outlook p
     all p h = c .same p h (λ j x y e. omega arith)

@@ -13,7 +13,7 @@ use Rattle.theory.specs.Reading.{All}
 use Rattle.theory.specs.Best.{Accepted}
 use Rattle.outage.specs.Held.{HoldsCustomers}
 use Rattle.relations.specs.Related.{HoldsRelations}
-use Rattle.paths.specs.Held.{HoldsEnds}
+use Rattle.marks.specs.Held.{HoldsEnds}
 use Rattle.starts.specs.Outlook.{Values, Outlook}
 use Rattle.relations.specs.Lists.{many, HoldsLists, SameUpTo}
 use Rattle.prospects.specs.Changes.{Changed}
@@ -58,25 +58,25 @@ pub record Tables (N : Network) (relations ends sums : List ℕ) : Type 0 where
   pub behind : HoldsCustomers N sums
 
 -- the outlook is that of the set without its last member, and there is room for what changes with it
-pub record Entering (N : Network) (relations ends lists outlook saved S : List ℕ) (size last : ℕ) : Type 0 where
+pub record Entering (N : Network) (relations ends lists outlook rows S : List ℕ) (size last : ℕ) : Type 0 where
   pub chosen : Chosen N relations S last
   pub coded : HoldsEnds N ends
   pub related : HoldsLists relations lists (length (N .places))
   pub without : Without S last
   pub holds : Outlook N (without .rest) last outlook
   pub outlookLong : length outlook ≡ 195
-  pub savedLong : length saved ≡ 3120
+  pub rowsLong : length rows ≡ 3120
   pub few : size ≤ 15
 
 -- the outlook is the set's own, and what changed is kept in row `size`
-pub record Entered (N : Network) (lists S : List ℕ) (size last : ℕ) (outlook outlook' saved saved' : List ℕ) : Type 0 where
+pub record Entered (N : Network) (lists S : List ℕ) (size last : ℕ) (outlook outlook' rows rows' : List ℕ) : Type 0 where
   pub outlookLong : length outlook' ≡ 195
-  pub savedLong : length saved' ≡ 3120
+  pub rowsLong : length rows' ≡ 3120
   pub own : Outlook N S (last + 1) outlook'
-  pub changed : Changed lists last (size * 195) 1 (many lists last + 1) outlook outlook' saved'
-  pub below : SameUpTo (size * 195) saved saved'
+  pub changed : Changed lists last (size * 195) 1 (many lists last + 1) outlook outlook' rows'
+  pub below : SameUpTo (size * 195) rows rows'
 
 -- the outlook becomes the set's own: nothing changes where `pending` is 0, and otherwise the set is entered
 abbrev pub OwnNow : Network → List ℕ → List ℕ → ℕ → ℕ → List ℕ → List ℕ → List ℕ → List ℕ → Type 0
-OwnNow N lists S size pending outlook outlook' saved saved' =
-    ((pending ≡ 0) × (outlook' ≡ outlook) × (saved' ≡ saved)) ⊎ ((pending ≡ 0 → ⊥) × Entered N lists S size pending outlook outlook' saved saved')
+OwnNow N lists S size pending outlook outlook' rows rows' =
+    ((pending ≡ 0) × (outlook' ≡ outlook) × (rows' ≡ rows)) ⊎ ((pending ≡ 0 → ⊥) × Entered N lists S size pending outlook outlook' rows rows')

@@ -13,7 +13,7 @@ ghost use Rattle.buffer.specs.Buffer.{networkIn};
 ghost use Rattle.tree.specs.Linked.{endCode};
 ghost use Rattle.outage.specs.Held.{HoldsCustomers};
 ghost use Rattle.sets.specs.Sets.{upstreamAt, weightAt, inSeriesAt};
-ghost use Rattle.paths.specs.Held.{HoldsEnds};
+ghost use Rattle.marks.specs.Held.{HoldsEnds};
 ghost use Rattle.starts.specs.Outlook.{Outlook};
 ghost use Rattle.relations.specs.Lists.{many, Row};
 ghost use Rattle.prospects.specs.Changes.{Put, Keeping, Undone};
@@ -105,13 +105,13 @@ fn put(outlook: &mut [u64; 195], place: usize, upstream: u64, weight: u64, serie
 }
 
 // Keeps the numbers of a place, from `start` on.
-fn keep(outlook: &[u64; 195], saved: &mut [u64; 3120], start: usize, place: usize)
-    requires { ⌜ (length (now saved) ≡ 3120) × (start + 195 ≤ 3120) × (place ≤ 64) ⌝ }
-    ensures { λ r. ⌜ Keeping (now (outlook .entry)) start place (now (saved .entry)) (now (saved .exit)) ⌝ }
+fn keep(outlook: &[u64; 195], rows: &mut [u64; 3120], start: usize, place: usize)
+    requires { ⌜ (length (now rows) ≡ 3120) × (start + 195 ≤ 3120) × (place ≤ 64) ⌝ }
+    ensures { λ r. ⌜ Keeping (now (outlook .entry)) start place (now (rows .entry)) (now (rows .exit)) ⌝ }
 {
-    saved[start + place] = outlook[place];
-    saved[start + 65 + place] = outlook[65 + place];
-    saved[start + 130 + place] = outlook[130 + place];
+    rows[start + place] = outlook[place];
+    rows[start + 65 + place] = outlook[65 + place];
+    rows[start + 130 + place] = outlook[130 + place];
 }
 
 // Makes the outlook of the set without its last member the set's own: only the numbers of the places that the member is related to
@@ -122,15 +122,15 @@ fn enter(
     ends: &[u64; 65],
     lists: &[u64; 4225],
     outlook: &mut [u64; 195],
-    saved: &mut [u64; 3120],
+    rows: &mut [u64; 3120],
     set: &[u64; 16],
     size: usize,
     last: usize,
 )
     requires { ⌜ Entering (networkIn (now net)) (now relations) (now ends) (now lists)
-        (now outlook) (now saved) (take size (now set)) size last ⌝ }
+        (now outlook) (now rows) (take size (now set)) size last ⌝ }
     ensures { λ r. ⌜ Entered (networkIn (now (net .entry))) (now (lists .entry)) (take size (now (set .entry))) size last
-        (now (outlook .entry)) (now (outlook .exit)) (now (saved .entry)) (now (saved .exit)) ⌝ }
+        (now (outlook .entry)) (now (outlook .exit)) (now (rows .entry)) (now (rows .exit)) ⌝ }
 {
     let start = size * 195;
     let row = last * 65;
@@ -139,7 +139,7 @@ fn enter(
         let upstream = upstream_of(net, relations, ends, outlook, set, size, last, place);
         let weight = weight_of(net, relations, outlook, set, size, last, place);
         let in_series = in_series_of(net, relations, outlook, set, size, last, place);
-        keep(outlook, saved, start, place);
+        keep(outlook, rows, start, place);
         put(outlook, place, upstream, weight, in_series);
     }
 }
@@ -151,16 +151,16 @@ pub fn enter_once(
     ends: &[u64; 65],
     lists: &[u64; 4225],
     outlook: &mut [u64; 195],
-    saved: &mut [u64; 3120],
+    rows: &mut [u64; 3120],
     set: &[u64; 16],
     size: usize,
     pending: usize,
 )
     requires { ⌜ ((pending ≡ 0 → ⊥)
         → Entering (networkIn (now net)) (now relations) (now ends) (now lists)
-        (now outlook) (now saved) (take size (now set)) size pending) ⌝ }
+        (now outlook) (now rows) (take size (now set)) size pending) ⌝ }
     ensures { λ r. ⌜ OwnNow (networkIn (now (net .entry))) (now (lists .entry)) (take size (now (set .entry))) size pending
-        (now (outlook .entry)) (now (outlook .exit)) (now (saved .entry)) (now (saved .exit)) ⌝ }
+        (now (outlook .entry)) (now (outlook .exit)) (now (rows .entry)) (now (rows .exit)) ⌝ }
 {
     if pending != 0 {
         enter(
@@ -169,7 +169,7 @@ pub fn enter_once(
             ends,
             lists,
             outlook,
-            saved,
+            rows,
             set,
             size,
             pending,
@@ -181,13 +181,13 @@ pub fn enter_once(
 pub fn leave(
     lists: &[u64; 4225],
     outlook: &mut [u64; 195],
-    saved: &[u64; 3120],
+    rows: &[u64; 3120],
     size: usize,
     last: usize,
 )
     requires { ⌜ (length (now outlook) ≡ 195) × (size ≤ 15) × Row (now lists) last (many (now lists) last) 65 ⌝ }
     ensures { λ r. ⌜ Undone (now (lists .entry)) last (size * 195) (many (now (lists .entry)) last + 1)
-        (now (saved .entry)) (now (outlook .entry)) (now (outlook .exit)) ⌝ }
+        (now (rows .entry)) (now (outlook .entry)) (now (outlook .exit)) ⌝ }
 {
     let start = size * 195;
     let row = last * 65;
@@ -196,9 +196,9 @@ pub fn leave(
         put(
             outlook,
             place,
-            saved[start + place],
-            saved[start + 65 + place],
-            saved[start + 130 + place],
+            rows[start + place],
+            rows[start + 65 + place],
+            rows[start + 130 + place],
         );
     }
 }
@@ -240,7 +240,7 @@ pub fn savings_of(
     requires start { ⌜ Outlook (networkIn (now net)) [] 1 (now outlook) ⌝ }
     requires room { ⌜ length (now savings) ≡ 64 ⌝ }
     ensures long { λ r. ⌜ length (now (savings .exit)) ≡ 64 ⌝ }
-    ensures saved { λ r. ⌜ take (length (networkIn (now (net .entry)) .places)) (now (savings .exit))
+    ensures rows { λ r. ⌜ take (length (networkIn (now (net .entry)) .places)) (now (savings .exit))
         ≡ map (λ p. saving (networkIn (now (net .entry))) p) (placeNumbers (networkIn (now (net .entry)))) ⌝ }
 {
     let none = [0u64; 16];

@@ -15,23 +15,23 @@ use Rattle.model.specs.Paths.{line, End, sameEnd}
 use Rattle.savings.specs.Facts.{or-cases, sameEnd-eq, sameEnd-refl}
 use Rattle.savings.specs.First.{this}
 use Rattle.savings.specs.Breakers.{endAt}
+use Rattle.theory.specs.Behind.{far}
 use Rattle.theory.specs.Best.{Accepted, place-closed}
 use Rattle.buffer.specs.Fits.{endIn}
-use Rattle.tree.specs.Linked.{codeEnd}
 use Rattle.tree.specs.Outwards.{nearEnd, feeder}
 use Rattle.sets.specs.Ways.{has, Way, has-onward}
 use Rattle.sets.specs.Onward.{onward, onward-first, way-onward}
 use Rattle.sets.specs.Stops.{firstPlace, passes-stop}
-use Rattle.sets.specs.Sets.{route}
 use Rattle.sets.specs.Apart.{placeEnds, ends-apart}
-use Rattle.paths.specs.Held.{placeOn, HoldsPlaces, HoldsFirsts}
+use Rattle.marks.specs.Held.{placeOn, HoldsPlaces}
+use Rattle.paths.specs.Held.{HoldsFeeders, HoldsFirsts}
 use Rattle.relations.specs.Related.{relation, HoldsRelations}
-use Rattle.paths.specs.Meets.{orElse, pathBeyond, HoldsFeeders}
+use Rattle.paths.specs.Meets.{orElse, markAt, pathBeyond}
 use Rattle.relations.specs.Climb.{isAbove, placeAbove, Among, noted}
-use Rattle.paths.proofs.Marking.{place-fits}
-use Rattle.paths.proofs.PlaceOn.{Unplaced, Placed, place-or-none, listed-number, listed-place, no-end-unplaced}
-use Rattle.paths.proofs.Meeting.{first-next}
-use Rattle.paths.proofs.Passing.{near-own, beyond-is, far-coded, route-is, feeder-high}
+use Rattle.marks.proofs.Marking.{place-fits}
+use Rattle.marks.proofs.PlaceOn.{Unplaced, Placed, place-or-none, listed-number, listed-place, no-end-unplaced}
+use Rattle.paths.proofs.Passing.{near-own, beyond-is, route-is, feeder-high}
+use Rattle.paths.proofs.FarEnds.{first-beyond}
 use Rattle.relations.proofs.Climbing.{from, from-is, Climb}
 
 -- the path onward from an end of a path is shorter
@@ -95,14 +95,14 @@ module _ (N : Network) (a : Accepted N) where
     near-is = f .nears l u v
 
     path-first : onward N (endIn l s) ≡ this (sameEnd (nearEnd N l) (endIn l s)) (pathBeyond N (feeder N l)) (nearEnd N l ∷ pathBeyond N (feeder N l))
-    path-first = onward-first N (endIn l s) (nearEnd N l) (pathBeyond N (feeder N l)) (route-is N a l u v)
+    path-first = onward-first N (endIn l s) (nearEnd N l) (pathBeyond N (feeder N l)) (route-is N (a .read) (a .rules) l u v)
 
     -- the end is the far end
     pub above-far : s ≢ getD near (l - 1) 0 → getD firsts (l - 1) 0 ≡ placeOn N (firstPlace (placeEnds N) (onward N (endIn l s)))
     above-far d =
         h l u v
         ∙ ap (λ es. placeOn N (firstPlace (placeEnds N) es))
-        (sym (path-first ∙ ap (λ b. this b (pathBeyond N (feeder N l)) (nearEnd N l ∷ pathBeyond N (feeder N l))) (other (sameEnd (nearEnd N l) (endIn l s)) refl) ∙ route-is N a l u v))
+        (sym (path-first ∙ ap (λ b. this b (pathBeyond N (feeder N l)) (nearEnd N l ∷ pathBeyond N (feeder N l))) (other (sameEnd (nearEnd N l) (endIn l s)) refl) ∙ route-is N (a .read) (a .rules) l u v))
       where
         other : (b : Bool) → sameEnd (nearEnd N l) (endIn l s) ≡ b → b ≡ false
         other true e = absurd (d (sym (near-is ∙ ap (λ (x : End). x .side) (sameEnd-eq (nearEnd N l) (endIn l s) e))))
@@ -113,7 +113,7 @@ module _ (N : Network) (a : Accepted N) where
       near-path : onward N (endIn l s) ≡ pathBeyond N (getD feeders (l - 1) 0)
       near-path =
           path-first
-          ∙ ap (λ b. this b (pathBeyond N (feeder N l)) (nearEnd N l ∷ pathBeyond N (feeder N l))) (λ k. eq-eqb (nearEnd N l .line) l (near-own N a l u v .0) k && eq-eqb (nearEnd N l .side) s (sym (e ∙ near-is)) k)
+          ∙ ap (λ b. this b (pathBeyond N (feeder N l)) (nearEnd N l ∷ pathBeyond N (feeder N l))) (λ k. eq-eqb (nearEnd N l .line) l (near-own N (a .read) (a .rules) l u v .0) k && eq-eqb (nearEnd N l .side) s (sym (e ∙ near-is)) k)
           ∙ ap (pathBeyond N) (sym (f .feeds l u v))
 
       pub above-hv : getD feeders (l - 1) 0 ≡ 0 → 0 ≡ placeOn N (firstPlace (placeEnds N) (onward N (endIn l s)))
@@ -128,19 +128,16 @@ module _ (N : Network) (a : Accepted N) where
         feeder-low = omega (arith, z)
 
         feeder-most : k ≤ length (N .lines)
-        feeder-most = omega (arith, f .feeds l u v, feeder-high N a l u v)
+        feeder-most = omega (arith, f .feeds l u v, feeder-high N (a .read) (a .rules) l u v)
 
-        pub feeder-near : (k ≤ length (N .lines)) × (1 ≤ getD near (k - 1) 0) × (getD near (k - 1) 0 ≤ 2)
-        feeder-near = let o = near-own N a k feeder-low feeder-most in let n = f .nears k feeder-low feeder-most in (feeder-most, omega (arith, n, o), omega (arith, n, o))
+        pub feeder-in : (1 ≤ k) × (k ≤ length (N .lines))
+        feeder-in = (feeder-low, feeder-most)
 
-        pub above-fed : (r : ℕ) → r ≡ orElse (getD marks (2 * k + 1 - getD near (k - 1) 0) 0) (getD firsts (k - 1) 0) → r ≡ placeOn N (firstPlace (placeEnds N) (onward N (endIn l s)))
+        pub above-fed : (r : ℕ) → r ≡ orElse (markAt marks (far (nearEnd N k))) (getD firsts (k - 1) 0) → r ≡ placeOn N (firstPlace (placeEnds N) (onward N (endIn l s)))
         above-fed r q =
-            let c = 2 * k + 1 - getD near (k - 1) 0 in
             q
-            ∙ first-next N (λ e. has e (placeEnds N)) (codeEnd c) (route N k) refl (getD marks c 0) (getD firsts (k - 1) 0)
-            (m c (omega (arith, feeder-low, feeder-near)) (omega (arith, feeder-low, feeder-near))) (h k feeder-low feeder-most)
-            ∙ ap (λ es. placeOn N (firstPlace (placeEnds N) es))
-            (ap (λ e. e ∷ route N k) (far-coded N a k feeder-low feeder-most (getD near (k - 1) 0) (f .nears k feeder-low feeder-most)) ∙ beyond-is N k feeder-low ∙ sym near-path)
+            ∙ first-beyond N (a .read) (a .rules) marks firsts m h k feeder-low feeder-most
+            ∙ ap (λ es. placeOn N (firstPlace (placeEnds N) es)) (beyond-is N k feeder-low ∙ sym near-path)
 
   -- ── the relations ──
   pub relations-all : (rel : List ℕ) → ((k : ℕ) → k ≤ 64 → getD rel k 0 ≡ 0)

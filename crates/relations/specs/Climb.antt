@@ -13,7 +13,7 @@ use Rattle.sets.specs.Ways.{has}
 use Rattle.sets.specs.Onward.{onward}
 use Rattle.sets.specs.Stops.{firstPlace}
 use Rattle.sets.specs.Apart.{placeEnds}
-use Rattle.paths.specs.Held.{placeOn}
+use Rattle.marks.specs.Held.{placeOn}
 
 -- place q is above place p
 abbrev pub isAbove : Network → ℕ → ℕ → Bool

@@ -4,10 +4,10 @@ ghost use lib.ListN.{length, getD};
 ghost use Rattle.theory.specs.Best.{Accepted};
 ghost use Rattle.buffer.specs.Buffer.{networkIn};
 ghost use Rattle.relations.specs.Related.{HoldsRelations};
-ghost use Rattle.paths.specs.Held.{HoldsPlaces, HoldsFirsts};
+ghost use Rattle.marks.specs.Held.{HoldsPlaces};
+ghost use Rattle.paths.specs.Held.{HoldsFeeders, HoldsFirsts};
 ghost use Rattle.relations.specs.Lists.{HoldsLists, many, Listed, SameUpTo};
 ghost use Prim.Native.Nat.{ℕ, _+_, _*_, _≤_};
-ghost use Rattle.paths.specs.Meets.{HoldsFeeders};
 ghost use Rattle.relations.specs.Climb.{isAbove, placeAbove, Among, Noted, Kept};
 
 // The next place above a place, the first that the path onward from it meets; 0 if there is none.
@@ -19,7 +19,9 @@ fn above_of(
     firsts: &[u64; 768],
     place: usize,
 ) -> usize
-    requires { ⌜ Accepted (networkIn (now net)) × HoldsFeeders (networkIn (now net)) (now sides) (now feeders) × HoldsPlaces (networkIn (now net)) (now marks) × HoldsFirsts (networkIn (now net)) (now firsts) × Among (length (networkIn (now net) .places)) place ⌝ }
+    requires { ⌜ Accepted (networkIn (now net)) × HoldsFeeders (networkIn (now net)) (now sides) (now feeders)
+        × HoldsPlaces (networkIn (now net)) (now marks) × HoldsFirsts (networkIn (now net)) (now firsts)
+        × Among (length (networkIn (now net) .places)) place ⌝ }
     ensures { λ r. ⌜ r ≡ placeAbove (networkIn (now (net .entry))) place ⌝ }
 {
     let line = buffer::place_line(net, place);
@@ -30,9 +32,7 @@ fn above_of(
     if feeder == 0 {
         return 0;
     }
-    // the feeder's far end
-    let code = 2 * feeder + 1 - sides[feeder - 1] as usize;
-    paths::first_from(marks, code, firsts[feeder - 1]) as usize
+    paths::first_beyond(net, sides, marks, firsts, feeder) as usize
 }
 
 // The relations between a place and those above it: it is behind each of them, and each is on the path onward from it.
@@ -45,8 +45,12 @@ fn climb(
     relations: &mut [u64; 4225],
     place: usize,
 )
-    requires { ⌜ Accepted (networkIn (now net)) × HoldsFeeders (networkIn (now net)) (now sides) (now feeders) × HoldsPlaces (networkIn (now net)) (now marks) × HoldsFirsts (networkIn (now net)) (now firsts) × Among (length (networkIn (now net) .places)) place × (length (now relations) ≡ 4225) ⌝ }
-    ensures { λ r. ⌜ Noted (length (networkIn (now (net .entry)) .places)) (λ q. isAbove (networkIn (now (net .entry))) q place) place (now (relations .entry)) (now (relations .exit)) × Kept (now (relations .entry)) (now (relations .exit)) × (length (now (relations .exit)) ≡ 4225) ⌝ }
+    requires { ⌜ Accepted (networkIn (now net)) × HoldsFeeders (networkIn (now net)) (now sides) (now feeders)
+        × HoldsPlaces (networkIn (now net)) (now marks) × HoldsFirsts (networkIn (now net)) (now firsts)
+        × Among (length (networkIn (now net) .places)) place × (length (now relations) ≡ 4225) ⌝ }
+    ensures { λ r. ⌜ Noted (length (networkIn (now (net .entry)) .places)) (λ q. isAbove (networkIn (now (net .entry))) q place)
+        place (now (relations .entry)) (now (relations .exit)) × Kept (now (relations .entry)) (now (relations .exit))
+        × (length (now (relations .exit)) ≡ 4225) ⌝ }
 {
     let mut above = above_of(net, sides, feeders, marks, firsts, place);
     while above != 0 {
@@ -72,8 +76,10 @@ pub fn fill_relations(
     firsts: &[u64; 768],
     relations: &mut [u64; 4225],
 )
-    requires { ⌜ Accepted (networkIn (now net)) × HoldsFeeders (networkIn (now net)) (now sides) (now feeders) × HoldsPlaces (networkIn (now net)) (now marks) × HoldsFirsts (networkIn (now net)) (now firsts) ⌝ }
-    ensures { λ r. ⌜ HoldsRelations (networkIn (now (net .entry))) (now (relations .exit)) × (length (now (relations .exit)) ≡ 4225) ⌝ }
+    requires { ⌜ Accepted (networkIn (now net)) × HoldsFeeders (networkIn (now net)) (now sides) (now feeders)
+        × HoldsPlaces (networkIn (now net)) (now marks) × HoldsFirsts (networkIn (now net)) (now firsts) ⌝ }
+    ensures { λ r. ⌜ HoldsRelations (networkIn (now (net .entry))) (now (relations .exit))
+        × (length (now (relations .exit)) ≡ 4225) ⌝ }
 {
     no_relations(relations);
     for place in 1..buffer::place_count(net) + 1 {
@@ -84,7 +90,8 @@ pub fn fill_relations(
 // Row `q`: how many of the places after it are related to it, then these places.
 fn fill_list(relations: &[u64; 4225], count: usize, q: usize, lists: &mut [u64; 4225])
     requires { ⌜ (count ≤ 64) × (1 ≤ q) × (q ≤ count) × (length (now lists) ≡ 4225) ⌝ }
-    ensures { λ r. ⌜ Listed (now (relations .entry)) (now (lists .exit)) q (many (now (lists .exit)) q) (count + 1) × SameUpTo (q * 65) (now (lists .entry)) (now (lists .exit)) × (length (now (lists .exit)) ≡ 4225) ⌝ }
+    ensures { λ r. ⌜ Listed (now (relations .entry)) (now (lists .exit)) q (many (now (lists .exit)) q) (count + 1)
+        × SameUpTo (q * 65) (now (lists .entry)) (now (lists .exit)) × (length (now (lists .exit)) ≡ 4225) ⌝ }
 {
     let row = q * 65;
     let mut found = 0;

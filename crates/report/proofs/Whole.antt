@@ -13,7 +13,7 @@ use Rattle.model.specs.Text.{lineA, lineC, reportText}
 use Rattle.theory.specs.Sizes.{read-sized, setTotal-size}
 use Rattle.theory.specs.Best.{member-place, search-answered}
 use Rattle.buffer.specs.Buffer.{networkIn}
-use Rattle.outage.proofs.Calls.{read-fits}
+use Rattle.tree.proofs.Fitting.{read-fits}
 use Rattle.report.specs.Parts.{faultLines, outcomeLine, memberLines}
 use Rattle.report.specs.Ready.{ArePlaces, Answered}
 

@@ -37,11 +37,11 @@ before-more q (p ∷ S) b l = ((b .0 .0, omega (arith, b .0 .1)), before-more q 
 
 -- The outlook as the walk came with it, where `pending` is the last member, or the set's own, which can be undone.
 abbrev pub State : Network → List ℕ → List ℕ → List ℕ → ℕ → ℕ → ℕ → List ℕ → List ℕ → Type 0
-State N lists outlook₀ S size last pending outlook saved =
-    ((pending ≡ last) × (outlook ≡ outlook₀)) ⊎ ((pending ≡ 0) × (1 ≤ last) × (size ≤ 15) × Outlook N S (last + 1) outlook × Changed lists last (size * 195) 1 (many lists last + 1) outlook₀ outlook saved)
+State N lists outlook₀ S size last pending outlook rows =
+    ((pending ≡ last) × (outlook ≡ outlook₀)) ⊎ ((pending ≡ 0) × (1 ≤ last) × (size ≤ 15) × Outlook N S (last + 1) outlook × Changed lists last (size * 195) 1 (many lists last + 1) outlook₀ outlook rows)
 
 -- The walk has come to a place: with the places from there on it finds what it finds with all of them.
-pub record Going (N : Network) (lists outlook₀ saved₀ set₀ : List ℕ) (at : Current) (from left : ℕ) (f₀ : Found) (place : ℕ) (p : Progress) (pending : ℕ) (outlook saved set' best : List ℕ) : Type 0 where
+pub record Going (N : Network) (lists outlook₀ rows₀ set₀ : List ℕ) (at : Current) (from left : ℕ) (f₀ : Found) (place : ℕ) (p : Progress) (pending : ℕ) (outlook rows set' best : List ℕ) : Type 0 where
   pub low : from ≤ place
   pub within : place ≤ length (N .places) + 1
   pub counted : Counted N p
@@ -49,15 +49,15 @@ pub record Going (N : Network) (lists outlook₀ saved₀ set₀ : List ℕ) (at
   pub setLong : length set' ≡ 16
   pub setSame : take (at .size) set' ≡ take (at .size) set₀
   pub outlookLong : length outlook ≡ 195
-  pub savedLong : length saved ≡ 3120
-  pub savedSame : SameUpTo (at .size * 195) saved₀ saved
-  pub state : State N lists outlook₀ (take (at .size) set₀) (at .size) (at .last) pending outlook saved
+  pub rowsLong : length rows ≡ 3120
+  pub rowsSame : SameUpTo (at .size * 195) rows₀ rows
+  pub state : State N lists outlook₀ (take (at .size) set₀) (at .size) (at .last) pending outlook rows
   pub same : extended N left (take (at .size) set₀) place (foundIn N p best) ≡ extended N left (take (at .size) set₀) from f₀
 
 pub saves-next : {N : Network} {set : List ℕ} {at : Current} {place : ℕ} {next : Current} → Next N set at place next → next .saved .0 ≤ total N
 saves-next n = omega (arith, n .saved)
 
-module _ {N : Network} {relations ends lists sums bounds outlook₀ saved₀ set₀ : List ℕ} {at : Current} {from left : ℕ} (x : Extending N relations ends lists sums bounds outlook₀ saved₀ set₀ at from left) where
+module _ {N : Network} {relations ends lists sums bounds outlook₀ rows₀ set₀ : List ℕ} {at : Current} {from left : ℕ} (x : Extending N relations ends lists sums bounds outlook₀ rows₀ set₀ at from left) where
   abbrev S : List ℕ
   S = take (at .size) set₀
 
@@ -74,13 +74,13 @@ module _ {N : Network} {relations ends lists sums bounds outlook₀ saved₀ set
   row l = row-wide (omega (arith, places-few)) (x .related (at .last) l (x .standing .chosen .high) .row)
 
   -- a state stays while the rows after the set's own change
-  state-kept : {pending : ℕ} {outlook outlook' saved saved' : List ℕ} → outlook' ≡ outlook → SameUpTo (at .size * 195 + 195) saved saved' → State N lists outlook₀ S (at .size) (at .last) pending outlook saved
-      → State N lists outlook₀ S (at .size) (at .last) pending outlook' saved'
+  state-kept : {pending : ℕ} {outlook outlook' rows rows' : List ℕ} → outlook' ≡ outlook → SameUpTo (at .size * 195 + 195) rows rows' → State N lists outlook₀ S (at .size) (at .last) pending outlook rows
+      → State N lists outlook₀ S (at .size) (at .last) pending outlook' rows'
   state-kept e u (inl s) = inl (s .0, e ∙ s .1)
   state-kept e u (inr s) = inr (s .0, s .1, s .2, rw e (s .3), rw e (changed-kept (row (s .1)) (omega arith) u (s .4)))
 
   pub going-first : (p : Progress) (best : List ℕ) → length best ≡ 16 → Counted N p
-      → Going N lists outlook₀ saved₀ set₀ at from left (foundIn N p best) from p (at .last) outlook₀ saved₀ set₀ best
+      → Going N lists outlook₀ rows₀ set₀ at from left (foundIn N p best) from p (at .last) outlook₀ rows₀ set₀ best
   going-first p best b k = record {
     low = omega arith;
     within = x .high;
@@ -89,13 +89,13 @@ module _ {N : Network} {relations ends lists sums bounds outlook₀ saved₀ set
     setLong = x .standing .setLong;
     setSame = refl;
     outlookLong = x .outlookLong;
-    savedLong = x .savedLong;
-    savedSame = λ k h. refl;
+    rowsLong = x .rowsLong;
+    rowsSame = λ k h. refl;
     state = inl (refl, refl);
     same = refl;
   }
 
-  module _ {f₀ : Found} {place : ℕ} {p : Progress} {pending : ℕ} {outlook saved set' best : List ℕ} (g : Going N lists outlook₀ saved₀ set₀ at from left f₀ place p pending outlook saved set' best) where
+  module _ {f₀ : Found} {place : ℕ} {p : Progress} {pending : ℕ} {outlook rows set' best : List ℕ} (g : Going N lists outlook₀ rows₀ set₀ at from left f₀ place p pending outlook rows set' best) where
     abbrev f : Found
     f = foundIn N p best
 
@@ -103,7 +103,7 @@ module _ {N : Network} {relations ends lists sums bounds outlook₀ saved₀ set
     low = omega (arith, x .low, g .low)
 
     -- where the walk goes no further and the outlook is as it came, it leaves what it has found
-    stopped : {outlook' : List ℕ} → outlook' ≡ outlook₀ → Barren N (p .spent) (p .saved .0) (at .saved .0) place left → Left N (extended N left S from f₀) (at .size) p outlook₀ outlook' saved₀ saved set₀ set' best
+    stopped : {outlook' : List ℕ} → outlook' ≡ outlook₀ → Barren N (p .spent) (p .saved .0) (at .saved .0) place left → Left N (extended N left S from f₀) (at .size) p outlook₀ outlook' rows₀ rows set₀ set' best
     stopped e b = record {
       found = sym (barren N S left place f (at .saved .0) (g .counted .saved) refl (x .standing .saved) b) ∙ g .same;
       counted = g .counted;
@@ -111,16 +111,16 @@ module _ {N : Network} {relations ends lists sums bounds outlook₀ saved₀ set
       setLong = g .setLong;
       setSame = g .setSame;
       outlookSame = e;
-      savedLong = g .savedLong;
-      savedSame = g .savedSame;
+      rowsLong = g .rowsLong;
+      rowsSame = g .rowsSame;
     }
 
-    pub stopped-same : pending ≡ at .last → Barren N (p .spent) (p .saved .0) (at .saved .0) place left → Left N (extended N left S from f₀) (at .size) p outlook₀ outlook saved₀ saved set₀ set' best
+    pub stopped-same : pending ≡ at .last → Barren N (p .spent) (p .saved .0) (at .saved .0) place left → Left N (extended N left S from f₀) (at .size) p outlook₀ outlook rows₀ rows set₀ set' best
     stopped-same e = stopped (⊎-elim (λ s. s .1) (λ s. absurd (omega (arith, s .0, s .1))) (g .state))
 
     -- the outlook is the set's own, and its changes are undone
     module _ (n : pending ≡ at .last → ⊥) where
-      entered : (1 ≤ at .last) × (at .size ≤ 15) × Changed lists (at .last) (at .size * 195) 1 (many lists (at .last) + 1) outlook₀ outlook saved
+      entered : (1 ≤ at .last) × (at .size ≤ 15) × Changed lists (at .last) (at .size * 195) 1 (many lists (at .last) + 1) outlook₀ outlook rows
       entered = ⊎-elim (λ s. absurd (n (s .0))) (λ s. (s .1, s .2, s .4)) (g .state)
 
       pub left-few : at .size ≤ 15
@@ -129,8 +129,8 @@ module _ {N : Network} {relations ends lists sums bounds outlook₀ saved₀ set
       pub left-row : Row lists (at .last) (many lists (at .last)) 65
       left-row = row (entered .0)
 
-      pub stopped-undone : {outlook' : List ℕ} → Undone lists (at .last) (at .size * 195) (many lists (at .last) + 1) saved outlook outlook' → Barren N (p .spent) (p .saved .0) (at .saved .0) place left
-          → Left N (extended N left S from f₀) (at .size) p outlook₀ outlook' saved₀ saved set₀ set' best
+      pub stopped-undone : {outlook' : List ℕ} → Undone lists (at .last) (at .size * 195) (many lists (at .last) + 1) rows outlook outlook' → Barren N (p .spent) (p .saved .0) (at .saved .0) place left
+          → Left N (extended N left S from f₀) (at .size) p outlook₀ outlook' rows₀ rows set₀ set' best
       stopped-undone u = stopped (u outlook₀ (x .outlookLong) (entered .2))
 
     -- the set is read from the outlook
@@ -157,7 +157,7 @@ module _ {N : Network} {relations ends lists sums bounds outlook₀ saved₀ set
     seeking = record { standing = standing; table = x .table; counted = g .counted; low = omega (arith, x .low, g .low); high = g .within; few = x .few }
 
     -- and the walk has come to it
-    pub going-sought : {next : ℕ} → Sought N S' (at .saved .0) place left p next → Going N lists outlook₀ saved₀ set₀ at from left f₀ next p pending outlook saved set' best
+    pub going-sought : {next : ℕ} → Sought N S' (at .saved .0) place left p next → Going N lists outlook₀ rows₀ set₀ at from left f₀ next p pending outlook rows set' best
     going-sought {next} s = record {
       low = omega (arith, g .low, s .low);
       within = s .high;
@@ -166,8 +166,8 @@ module _ {N : Network} {relations ends lists sums bounds outlook₀ saved₀ set
       setLong = g .setLong;
       setSame = g .setSame;
       outlookLong = g .outlookLong;
-      savedLong = g .savedLong;
-      savedSame = g .savedSame;
+      rowsLong = g .rowsLong;
+      rowsSame = g .rowsSame;
       state = g .state;
       same = subst (λ U. extended N left U next f ≡ extended N left U place f) (g .setSame) (s .same f refl refl) ∙ g .same;
     }
@@ -200,7 +200,7 @@ module _ {N : Network} {relations ends lists sums bounds outlook₀ saved₀ set
 
       -- and the walk goes on with the next
       abbrev On : Progress → ℕ → List ℕ → List ℕ → List ℕ → List ℕ → Type 0
-      On q pending₂ outlook₂ saved₂ set₂ best₂ = Going N lists outlook₀ saved₀ set₀ at from left f₀ (place + 1) q pending₂ outlook₂ saved₂ set₂ best₂
+      On q pending₂ outlook₂ rows₂ set₂ best₂ = Going N lists outlook₀ rows₀ set₀ at from left f₀ (place + 1) q pending₂ outlook₂ rows₂ set₂ best₂
 
       tried-is : extended N left S (place + 1) (tried N (left - 1) S' place f) ≡ extended N left S from f₀
       tried-is =
@@ -216,7 +216,7 @@ module _ {N : Network} {relations ends lists sums bounds outlook₀ saved₀ set
         tried-allowed = ap (extended N (left - 1) T (place + 1)) (v ∙ ap (λ U. visited N U f) set⁺-is) ∙ sym (on-true _ _ b)
 
         -- and not extended
-        pub on-barren : Barren N (q .spent) (q .saved .0) (next .saved .0) (place + 1) (left - 1) → On q pending outlook saved set⁺ best₁
+        pub on-barren : Barren N (q .spent) (q .saved .0) (next .saved .0) (place + 1) (left - 1) → On q pending outlook rows set⁺ best₁
         on-barren r = record {
           low = omega (arith, g .low);
           within = omega (arith, h .high);
@@ -225,8 +225,8 @@ module _ {N : Network} {relations ends lists sums bounds outlook₀ saved₀ set
           setLong = set⁺-long;
           setSame = set⁺-same ∙ g .setSame;
           outlookLong = g .outlookLong;
-          savedLong = g .savedLong;
-          savedSame = g .savedSame;
+          rowsLong = g .rowsLong;
+          rowsSame = g .rowsSame;
           state = g .state;
           same =
               ap (extended N left S (place + 1))
@@ -238,7 +238,7 @@ module _ {N : Network} {relations ends lists sums bounds outlook₀ saved₀ set
         U-is = set⁺-same ∙ g .setSame
 
         -- the set gets its own outlook, if it has none
-        pub entering : (pending ≡ 0 → ⊥) → Entering N relations ends lists outlook saved (take (at .size) set⁺) (at .size) pending
+        pub entering : (pending ≡ 0 → ⊥) → Entering N relations ends lists outlook rows (take (at .size) set⁺) (at .size) pending
         entering d = ⊎-elim
             (λ s. absurd (d (s .0)))
             (λ s. rw (U-is, s .0) (record {
@@ -248,32 +248,32 @@ module _ {N : Network} {relations ends lists sums bounds outlook₀ saved₀ set
               without = s .1;
               holds = s .2;
               outlookLong = g .outlookLong;
-              savedLong = g .savedLong;
+              rowsLong = g .rowsLong;
               few = omega (arith, room);
             }))
             is-pending
 
         -- it has it
-        module _ {outlook₁ saved₁ : List ℕ}
-            (d : ((pending ≡ 0) × (outlook₁ ≡ outlook) × (saved₁ ≡ saved)) ⊎ ((pending ≡ 0 → ⊥) × Entered N lists (take (at .size) set⁺) (at .size) pending outlook outlook₁ saved saved₁)) where
+        module _ {outlook₁ rows₁ : List ℕ}
+            (d : ((pending ≡ 0) × (outlook₁ ≡ outlook) × (rows₁ ≡ rows)) ⊎ ((pending ≡ 0 → ⊥) × Entered N lists (take (at .size) set⁺) (at .size) pending outlook outlook₁ rows rows₁)) where
           abbrev Own : Type 0
-          Own = (length outlook₁ ≡ 195) × (length saved₁ ≡ 3120) × Outlook N S (at .last + 1) outlook₁ × SameUpTo (at .size * 195) saved₀ saved₁ × State N lists outlook₀ S (at .size) (at .last) 0 outlook₁ saved₁
+          Own = (length outlook₁ ≡ 195) × (length rows₁ ≡ 3120) × Outlook N S (at .last + 1) outlook₁ × SameUpTo (at .size * 195) rows₀ rows₁ × State N lists outlook₀ S (at .size) (at .last) 0 outlook₁ rows₁
 
           -- it had it already
-          had : (pending ≡ 0) × (outlook₁ ≡ outlook) × (saved₁ ≡ saved) → Own
+          had : (pending ≡ 0) × (outlook₁ ≡ outlook) × (rows₁ ≡ rows) → Own
           had s = rw (s .1, s .2) (
             g .outlookLong,
-            g .savedLong,
+            g .rowsLong,
             ⊎-elim (λ t. t .1) (λ t. absurd (omega (arith, s .0, t .0, t .1 .low))) is-pending,
-            g .savedSame,
-            subst (λ b. State N lists outlook₀ S (at .size) (at .last) b outlook saved) (s .0) (g .state),
+            g .rowsSame,
+            subst (λ b. State N lists outlook₀ S (at .size) (at .last) b outlook rows) (s .0) (g .state),
           )
 
-          got : (pending ≡ 0 → ⊥) × Entered N lists (take (at .size) set⁺) (at .size) pending outlook outlook₁ saved saved₁ → Own
+          got : (pending ≡ 0 → ⊥) × Entered N lists (take (at .size) set⁺) (at .size) pending outlook outlook₁ rows rows₁ → Own
           got s = ⊎-elim
               (λ t.
-              let e = subst (λ l. Entered N lists S (at .size) (at .last) l outlook₁ saved saved₁) (t .1) (subst (λ b. Entered N lists S (at .size) b outlook outlook₁ saved saved₁) (t .0) (subst (λ U. Entered N lists U (at .size) pending outlook outlook₁ saved saved₁) U-is (s .1))) in
-              (e .outlookLong, e .savedLong, e .own, λ k l. e .below k l ∙ g .savedSame k l, inr (refl, omega (arith, t .0, s .0), omega (arith, room), e .own, e .changed)))
+              let e = subst (λ l. Entered N lists S (at .size) (at .last) l outlook₁ rows rows₁) (t .1) (subst (λ b. Entered N lists S (at .size) b outlook outlook₁ rows rows₁) (t .0) (subst (λ U. Entered N lists U (at .size) pending outlook outlook₁ rows rows₁) U-is (s .1))) in
+              (e .outlookLong, e .rowsLong, e .own, λ k l. e .below k l ∙ g .rowsSame k l, inr (refl, omega (arith, t .0, s .0), omega (arith, room), e .own, e .changed)))
               (λ t. absurd (s .0 (t .0)))
               (g .state)
 
@@ -296,7 +296,7 @@ module _ {N : Network} {relations ends lists sums bounds outlook₀ saved₀ set
           }
 
           -- the set with the place is extended
-          pub extending : Extending N relations ends lists sums bounds outlook₁ saved₁ set⁺ next (place + 1) (left - 1)
+          pub extending : Extending N relations ends lists sums bounds outlook₁ rows₁ set⁺ next (place + 1) (left - 1)
           extending = record {
             coded = x .coded;
             related = x .related;
@@ -313,16 +313,16 @@ module _ {N : Network} {relations ends lists sums bounds outlook₀ saved₀ set
               timely = omega (arith, n .hours, allowed-means N T .0 b .hours);
             };
             outlookLong = own .0;
-            savedLong = own .1;
+            rowsLong = own .1;
             low = omega (arith, n .last);
             high = omega (arith, h .high);
             few = omega (arith, n .size, x .few, some);
           }
 
-          pub on-extended : (q₂ : Progress) (outlook₂ saved₂ set₂ best₂ : List ℕ)
-              → Left N (extended N (left - 1) (take (next .size) set⁺) (place + 1) (foundIn N q best₁)) (next .size) q₂ outlook₁ outlook₂ saved₁ saved₂ set⁺ set₂ best₂
-              → On q₂ 0 outlook₂ saved₂ set₂ best₂
-          on-extended q₂ outlook₂ saved₂ set₂ best₂ r = record {
+          pub on-extended : (q₂ : Progress) (outlook₂ rows₂ set₂ best₂ : List ℕ)
+              → Left N (extended N (left - 1) (take (next .size) set⁺) (place + 1) (foundIn N q best₁)) (next .size) q₂ outlook₁ outlook₂ rows₁ rows₂ set⁺ set₂ best₂
+              → On q₂ 0 outlook₂ rows₂ set₂ best₂
+          on-extended q₂ outlook₂ rows₂ set₂ best₂ r = record {
             low = omega (arith, g .low);
             within = omega (arith, h .high);
             counted = r .counted;
@@ -330,9 +330,9 @@ module _ {N : Network} {relations ends lists sums bounds outlook₀ saved₀ set
             setLong = r .setLong;
             setSame = shorter set₂ set⁺ (at .size) (next .size) (omega (arith, n .size)) (r .setSame) ∙ set⁺-same ∙ g .setSame;
             outlookLong = ap length (r .outlookSame) ∙ own .0;
-            savedLong = r .savedLong;
-            savedSame = λ k l. r .savedSame k (omega (arith, n .size)) ∙ own .3 k l;
-            state = state-kept (r .outlookSame) (λ k l. r .savedSame k (omega (arith, n .size))) (own .4);
+            rowsLong = r .rowsLong;
+            rowsSame = λ k l. r .rowsSame k (omega (arith, n .size)) ∙ own .3 k l;
+            state = state-kept (r .outlookSame) (λ k l. r .rowsSame k (omega (arith, n .size))) (own .4);
             same =
                 ap (extended N left S (place + 1)) (r .found ∙ ap (λ U. extended N (left - 1) U (place + 1) (foundIn N q best₁)) next-is ∙ tried-allowed)
                 ∙ tried-is;

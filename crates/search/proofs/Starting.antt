@@ -15,7 +15,7 @@ use Rattle.search.specs.Walking.{foundIn, visited, extended, Counted, Ex
 use Rattle.search.specs.declared.Progress.{Progress}
 use Rattle.prospects.proofs.Saving.{chosen-none}
 
-module _ {N : Network} {relations ends lists sums bounds outlook saved set₀ best : List ℕ} (x : Starting N relations ends lists sums bounds outlook saved set₀ best) where
+module _ {N : Network} {relations ends lists sums bounds outlook rows set₀ best : List ℕ} (x : Starting N relations ends lists sums bounds outlook rows set₀ best) where
   abbrev first : Progress
   first = record { saved = record { 0 = 0 }; count = 0; visits = 0; spent = false }
 
@@ -32,7 +32,7 @@ module _ {N : Network} {relations ends lists sums bounds outlook saved set₀ be
   }
 
   module _ (adds : ℕ) (e : N .head .adds ≡ adds) where
-    pub extending-none : Extending N relations ends lists sums bounds outlook saved set₀ (record { size = 0; last = 0; saved = record { 0 = 0 }; cost = 0; hours = 0 }) 1 adds
+    pub extending-none : Extending N relations ends lists sums bounds outlook rows set₀ (record { size = 0; last = 0; saved = record { 0 = 0 }; cost = 0; hours = 0 }) 1 adds
     unfolding sum
     extending-none = record {
       coded = x .tables .coded;
@@ -50,7 +50,7 @@ module _ {N : Network} {relations ends lists sums bounds outlook saved set₀ be
         timely = omega arith;
       };
       outlookLong = x .outlookLong;
-      savedLong = x .savedLong;
+      rowsLong = x .rowsLong;
       low = omega arith;
       high = omega arith;
       few = omega (arith, e);

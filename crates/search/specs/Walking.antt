@@ -11,7 +11,7 @@ use Rattle.model.specs.Outage.{total}
 use Rattle.model.specs.Sets.{placeAt, allowed, setTotal, saving}
 use Rattle.model.specs.Walk.{Found, visit, extend}
 use Rattle.outage.specs.Held.{HoldsCustomers}
-use Rattle.paths.specs.Held.{HoldsEnds}
+use Rattle.marks.specs.Held.{HoldsEnds}
 use Rattle.starts.specs.Outlook.{Outlook}
 use Rattle.relations.specs.Lists.{HoldsLists, SameUpTo}
 use Rattle.bounds.specs.Bounds.{placesFrom, mostSaved, HoldsBounds}
@@ -97,36 +97,36 @@ pub record Sought (N : Network) (S : List ℕ) (saved from left : ℕ) (p : Prog
   pub fitting : Promising N (p .spent) (p .saved .0) saved next left → allowed N (S ++ (next ∷ [])) ≡ true
 
 -- the set may get `left` more of the places from `from` on
-pub record Extending (N : Network) (relations ends lists sums bounds outlook saved set : List ℕ) (at : Current) (from left : ℕ) : Type 0 where
+pub record Extending (N : Network) (relations ends lists sums bounds outlook rows set : List ℕ) (at : Current) (from left : ℕ) : Type 0 where
   pub coded : HoldsEnds N ends
   pub related : HoldsLists relations lists (length (N .places))
   pub behind : HoldsCustomers N sums
   pub table : HoldsBounds N bounds
   pub standing : Standing N relations outlook set at (at .last)
   pub outlookLong : length outlook ≡ 195
-  pub savedLong : length saved ≡ 3120
+  pub rowsLong : length rows ≡ 3120
   pub low : at .last < from
   pub high : from ≤ length (N .places) + 1
   pub few : at .size + left ≡ N .head .adds
 
 -- what a walk leaves: what it found, and the set, the outlook and the rows before the set's own as they were
-pub record Left (N : Network) (f : Found) (size : ℕ) (p : Progress) (outlook outlook' saved saved' set set' best' : List ℕ) : Type 0 where
+pub record Left (N : Network) (f : Found) (size : ℕ) (p : Progress) (outlook outlook' rows rows' set set' best' : List ℕ) : Type 0 where
   pub found : foundIn N p best' ≡ f
   pub counted : Counted N p
   pub bestLong : length best' ≡ 16
   pub setLong : length set' ≡ 16
   pub setSame : take size set' ≡ take size set
   pub outlookSame : outlook' ≡ outlook
-  pub savedLong : length saved' ≡ 3120
-  pub savedSame : SameUpTo (size * 195) saved saved'
+  pub rowsLong : length rows' ≡ 3120
+  pub rowsSame : SameUpTo (size * 195) rows rows'
 
 -- before the walk
-pub record Starting (N : Network) (relations ends lists sums bounds outlook saved set best : List ℕ) : Type 0 where
+pub record Starting (N : Network) (relations ends lists sums bounds outlook rows set best : List ℕ) : Type 0 where
   pub tables : Tables N relations ends sums
   pub related : HoldsLists relations lists (length (N .places))
   pub table : HoldsBounds N bounds
   pub holds : Outlook N [] 1 outlook
   pub outlookLong : length outlook ≡ 195
-  pub savedLong : length saved ≡ 3120
+  pub rowsLong : length rows ≡ 3120
   pub setLong : length set ≡ 16
   pub bestLong : length best ≡ 16

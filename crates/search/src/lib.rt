@@ -15,7 +15,7 @@ ghost use Rattle.theory.specs.Best.{Accepted};
 ghost use Rattle.buffer.specs.Buffer.{networkIn};
 ghost use Rattle.buffer.specs.Fits.{PlaceThere};
 ghost use Rattle.outage.specs.Held.{HoldsCustomers};
-ghost use Rattle.paths.specs.Held.{HoldsEnds};
+ghost use Rattle.marks.specs.Held.{HoldsEnds};
 ghost use Rattle.bounds.specs.Bounds.{HoldsBounds};
 ghost use Rattle.search.specs.Walking.{foundIn, visited, extended, Counted, Trying, Next, Barren, Promising, Seeking, Sought, Extending, Left, Starting};
 use amounts::Total;
@@ -58,8 +58,13 @@ fn visit(
     best: &mut [u64; 16],
     progress: Progress,
 ) -> Progress
-    requires { ⌜ (length (now set) ≡ 16) × (length (now best) ≡ 16) × (size ≤ 16) × (saved .0 + setTotal (networkIn (now net)) (take size (now set)) ≡ totalOf (networkIn (now net))) × Counted (networkIn (now net)) progress ⌝ }
-    ensures { λ r. ⌜ (length (now (best .exit)) ≡ 16) × Counted (networkIn (now (net .entry))) r × (foundIn (networkIn (now (net .entry))) r (now (best .exit)) ≡ visited (networkIn (now (net .entry))) (take size (now (set .entry))) (foundIn (networkIn (now (net .entry))) progress (now (best .entry)))) ⌝ }
+    requires { ⌜ (length (now set) ≡ 16) × (length (now best) ≡ 16) × (size ≤ 16)
+        × (saved .0 + setTotal (networkIn (now net)) (take size (now set)) ≡ totalOf (networkIn (now net)))
+        × Counted (networkIn (now net)) progress ⌝ }
+    ensures { λ r. ⌜ (length (now (best .exit)) ≡ 16) × Counted (networkIn (now (net .entry))) r
+        × (foundIn (networkIn (now (net .entry))) r (now (best .exit))
+        ≡ visited (networkIn (now (net .entry))) (take size (now (set .entry)))
+        (foundIn (networkIn (now (net .entry))) progress (now (best .entry)))) ⌝ }
 {
     let most = progress.saved;
     if progress.visits == buffer::visits(net) {
@@ -90,14 +95,16 @@ fn visit(
 
 // Whether a set with such a cost and such hours is within the file's money and hours.
 fn within_means(net: &buffer::Net, cost: u64, hours: u64) -> bool
-    ensures { λ r. ⌜ r ≡ (leb cost (networkIn (now (net .entry)) .head .money) && leb hours (networkIn (now (net .entry)) .head .hours)) ⌝ }
+    ensures { λ r. ⌜ r ≡ (leb cost (networkIn (now (net .entry)) .head .money) && leb hours
+        (networkIn (now (net .entry)) .head .hours)) ⌝ }
 {
     cost <= buffer::money(net) && hours <= buffer::hours(net)
 }
 
 // The cost of the set with one more place.
 fn cost_with(net: &buffer::Net, current: Current, place: usize) -> u64
-    requires { ⌜ PlaceThere (now net) place × Read (networkIn (now net)) × (current .cost ≤ networkIn (now net) .head .money) × (current .hours ≤ networkIn (now net) .head .hours) ⌝ }
+    requires { ⌜ PlaceThere (now net) place × Read (networkIn (now net)) × (current .cost ≤ networkIn (now net) .head .money)
+        × (current .hours ≤ networkIn (now net) .head .hours) ⌝ }
     ensures { λ r. ⌜ r ≡ current .cost + placeAt (networkIn (now (net .entry))) place .cost ⌝ }
 {
     current.cost + buffer::place_cost(net, place)
@@ -105,7 +112,8 @@ fn cost_with(net: &buffer::Net, current: Current, place: usize) -> u64
 
 // The hours of the set with one more place.
 fn hours_with(net: &buffer::Net, current: Current, place: usize) -> u64
-    requires { ⌜ PlaceThere (now net) place × Read (networkIn (now net)) × (current .cost ≤ networkIn (now net) .head .money) × (current .hours ≤ networkIn (now net) .head .hours) ⌝ }
+    requires { ⌜ PlaceThere (now net) place × Read (networkIn (now net)) × (current .cost ≤ networkIn (now net) .head .money)
+        × (current .hours ≤ networkIn (now net) .head .hours) ⌝ }
     ensures { λ r. ⌜ r ≡ current .hours + placeAt (networkIn (now (net .entry))) place .hours ⌝ }
 {
     current.hours + buffer::place_hours(net, place)
@@ -153,7 +161,8 @@ fn with_place(
     pending: usize,
     place: usize,
 ) -> Current
-    requires { ⌜ Trying (networkIn (now net)) (now relations) (now outlook) (now set) current pending place × HoldsEnds (networkIn (now net)) (now ends) × HoldsCustomers (networkIn (now net)) (now sums) ⌝ }
+    requires { ⌜ Trying (networkIn (now net)) (now relations) (now outlook) (now set) current pending place
+        × HoldsEnds (networkIn (now net)) (now ends) × HoldsCustomers (networkIn (now net)) (now sums) ⌝ }
     ensures { λ r. ⌜ Next (networkIn (now (net .entry))) (now (set .entry)) current place r ⌝ }
 {
     let size = current.size;
@@ -187,8 +196,10 @@ fn goes_on(
     left: usize,
     found: Progress,
 ) -> bool
-    requires { ⌜ Accepted (networkIn (now net)) × HoldsBounds (networkIn (now net)) (now bounds) × Counted (networkIn (now net)) found × (saved .0 ≤ totalOf (networkIn (now net))) × (left ≤ 16) × (1 ≤ from) ⌝ }
-    ensures { λ r. ⌜ (r ≡ false → Barren (networkIn (now (net .entry))) (found .spent) (found .saved .0) (saved .0) from left) × (r ≡ true → Promising (networkIn (now (net .entry))) (found .spent) (found .saved .0) (saved .0) from left) ⌝ }
+    requires { ⌜ Accepted (networkIn (now net)) × HoldsBounds (networkIn (now net)) (now bounds)
+        × Counted (networkIn (now net)) found × (saved .0 ≤ totalOf (networkIn (now net))) × (left ≤ 16) × (1 ≤ from) ⌝ }
+    ensures { λ r. ⌜ (r ≡ false → Barren (networkIn (now (net .entry))) (found .spent) (found .saved .0) (saved .0) from left)
+        × (r ≡ true → Promising (networkIn (now (net .entry))) (found .spent) (found .saved .0) (saved .0) from left) ⌝ }
 {
     if left == 0 {
         return false;
@@ -212,8 +223,10 @@ fn goes_deeper(
     left: usize,
     found: Progress,
 ) -> bool
-    requires { ⌜ Accepted (networkIn (now net)) × HoldsBounds (networkIn (now net)) (now bounds) × Counted (networkIn (now net)) found × (saved .0 ≤ totalOf (networkIn (now net))) × (left ≤ 16) × (place ≤ 64) ⌝ }
-    ensures { λ r. ⌜ (r ≡ false → Barren (networkIn (now (net .entry))) (found .spent) (found .saved .0) (saved .0) (place + 1) left) ⌝ }
+    requires { ⌜ Accepted (networkIn (now net)) × HoldsBounds (networkIn (now net)) (now bounds)
+        × Counted (networkIn (now net)) found × (saved .0 ≤ totalOf (networkIn (now net))) × (left ≤ 16) × (place ≤ 64) ⌝ }
+    ensures { λ r. ⌜ (r ≡ false → Barren (networkIn (now (net .entry))) (found .spent) (found .saved .0) (saved .0) (place + 1)
+        left) ⌝ }
 {
     goes_on(net, bounds, saved, place + 1, left, found)
 }
@@ -231,8 +244,10 @@ fn next_place(
     left: usize,
     found: Progress,
 ) -> usize
-    requires { ⌜ Seeking (networkIn (now net)) (now relations) (now bounds) (now outlook) (now set) current pending from left found ⌝ }
-    ensures { λ r. ⌜ Sought (networkIn (now (net .entry))) (take (current .size) (now (set .entry))) (current .saved .0) from left found r ⌝ }
+    requires { ⌜ Seeking (networkIn (now net)) (now relations) (now bounds) (now outlook) (now set) current pending from left
+        found ⌝ }
+    ensures { λ r. ⌜ Sought (networkIn (now (net .entry))) (take (current .size) (now (set .entry))) (current .saved .0) from
+        left found r ⌝ }
 {
     let mut place = from;
     while goes_on(net, bounds, current.saved, place, left, found) {
@@ -257,8 +272,10 @@ fn next_after(
     left: usize,
     found: Progress,
 ) -> usize
-    requires { ⌜ Seeking (networkIn (now net)) (now relations) (now bounds) (now outlook) (now set) current pending (place + 1) left found ⌝ }
-    ensures { λ r. ⌜ Sought (networkIn (now (net .entry))) (take (current .size) (now (set .entry))) (current .saved .0) (place + 1) left found r ⌝ }
+    requires { ⌜ Seeking (networkIn (now net)) (now relations) (now bounds) (now outlook) (now set) current pending (place + 1)
+        left found ⌝ }
+    ensures { λ r. ⌜ Sought (networkIn (now (net .entry))) (take (current .size) (now (set .entry))) (current .saved .0)
+        (place + 1) left found r ⌝ }
 {
     let from = place + 1;
     next_place(
@@ -284,7 +301,7 @@ fn extend(
     sums: &[u64; 768],
     bounds: &[u64; 1105],
     outlook: &mut [u64; 195],
-    saved: &mut [u64; 3120],
+    rows: &mut [u64; 3120],
     set: &mut [u64; 16],
     best: &mut [u64; 16],
     current: Current,
@@ -292,8 +309,12 @@ fn extend(
     left: usize,
     progress: Progress,
 ) -> Progress
-    requires { ⌜ Extending (networkIn (now net)) (now relations) (now ends) (now lists) (now sums) (now bounds) (now outlook) (now saved) (now set) current from left × (length (now best) ≡ 16) × Counted (networkIn (now net)) progress ⌝ }
-    ensures { λ r. ⌜ Left (networkIn (now (net .entry))) (extended (networkIn (now (net .entry))) left (take (current .size) (now (set .entry))) from (foundIn (networkIn (now (net .entry))) progress (now (best .entry)))) (current .size) r (now (outlook .entry)) (now (outlook .exit)) (now (saved .entry)) (now (saved .exit)) (now (set .entry)) (now (set .exit)) (now (best .exit)) ⌝ }
+    requires { ⌜ Extending (networkIn (now net)) (now relations) (now ends) (now lists) (now sums) (now bounds) (now outlook)
+        (now rows) (now set) current from left × (length (now best) ≡ 16) × Counted (networkIn (now net)) progress ⌝ }
+    ensures { λ r. ⌜ Left (networkIn (now (net .entry))) (extended (networkIn (now (net .entry))) left
+        (take (current .size) (now (set .entry))) from (foundIn (networkIn (now (net .entry))) progress (now (best .entry))))
+        (current .size) r (now (outlook .entry)) (now (outlook .exit)) (now (rows .entry)) (now (rows .exit)) (now (set .entry))
+        (now (set .exit)) (now (best .exit)) ⌝ }
 {
     let size = current.size;
     let mut found = progress;
@@ -331,7 +352,7 @@ fn extend(
                 ends,
                 lists,
                 outlook,
-                saved,
+                rows,
                 set,
                 size,
                 pending,
@@ -345,7 +366,7 @@ fn extend(
                 sums,
                 bounds,
                 outlook,
-                saved,
+                rows,
                 set,
                 best,
                 next,
@@ -368,7 +389,7 @@ fn extend(
         );
     }
     if pending != current.last {
-        prospects::leave(lists, outlook, saved, size, current.last);
+        prospects::leave(lists, outlook, rows, size, current.last);
     }
     found
 }
@@ -382,12 +403,14 @@ pub fn walk(
     sums: &[u64; 768],
     bounds: &[u64; 1105],
     outlook: &mut [u64; 195],
-    saved: &mut [u64; 3120],
+    rows: &mut [u64; 3120],
     set: &mut [u64; 16],
     best: &mut [u64; 16],
 ) -> Progress
-    requires { ⌜ Starting (networkIn (now net)) (now relations) (now ends) (now lists) (now sums) (now bounds) (now outlook) (now saved) (now set) (now best) ⌝ }
-    ensures { λ r. ⌜ (foundIn (networkIn (now (net .entry))) r (now (best .exit)) ≡ search (networkIn (now (net .entry)))) × (length (now (best .exit)) ≡ 16) × (r .count ≤ 16) ⌝ }
+    requires { ⌜ Starting (networkIn (now net)) (now relations) (now ends) (now lists) (now sums) (now bounds) (now outlook)
+        (now rows) (now set) (now best) ⌝ }
+    ensures { λ r. ⌜ (foundIn (networkIn (now (net .entry))) r (now (best .exit)) ≡ search (networkIn (now (net .entry))))
+        × (length (now (best .exit)) ≡ 16) × (r .count ≤ 16) ⌝ }
 {
     let start = Progress {
         saved: Total::ZERO,
@@ -404,7 +427,7 @@ pub fn walk(
         sums,
         bounds,
         outlook,
-        saved,
+        rows,
         set,
         best,
         Current {

@@ -38,10 +38,10 @@ module _ (N : Network) (a : Accepted N) where
       let y = Memᴰ·of-map (λ p. endAt N p) (placeNumbers N) (x .1) in
       (y .0, y .1, y .2 ∙ sameEnd-eq (x .0) e (x .2))
 
-  place-free-of : (e : End) → has e (placeEnds N) ≡ true → breakersWith N [] e ≡ false
+  pub place-free-of : (e : End) → has e (placeEnds N) ≡ true → breakersWith N [] e ≡ false
   place-free-of e h = let x = place-of e h in ap (breakersWith N []) (sym (x .2)) ∙ place-free N a (x .0) (x .1) [] (λ p m. absurd (List·Memᴰ·not-nil m)) tt
 
-  no-place : has noEnd (placeEnds N) ≡ false
+  pub no-place : has noEnd (placeEnds N) ≡ false
   unfolding state
   no-place = go (has noEnd (placeEnds N)) refl
     where

@@ -10,7 +10,7 @@ use Rattle.model.specs.Outage.{noEnd}
 use Rattle.graphs.specs.Graph.{NoRepeat}
 use Rattle.graphs.specs.Sum.{on, sumOver, sum-ext, sum-swap}
 use Rattle.graphs.specs.Tree.{countOf}
-use Rattle.savings.specs.Facts.{both, sameEnd-eq}
+use Rattle.savings.specs.Facts.{both, sameEnd-eq, sameEnd-refl}
 use Rattle.savings.specs.First.{this}
 use Rattle.theory.specs.Ends.{any-in, any-out, fresh-unused}
 use Rattle.sets.specs.Ways.{has, covers, Way, upstream, under, covers-is}
@@ -79,6 +79,32 @@ module _ (up : End → List End) (B : End → Bool) (n : B noEnd ≡ false) (ps 
 -- the first end of a path that has a place
 abbrev pub firstPlace : List End → List End → End
 firstPlace ps es = firstOr noEnd (λ e. has e ps) es
+
+and-no : (b : Bool) → (b && false) ≡ false
+and-no true = refl
+and-no false = refl
+
+-- the first stop of a path is its first place, if that one's breaker would trip for it, and else its first breaker
+module _ (B : End → Bool) (ps : List End) (plain : (e : End) → has e ps ≡ true → B e ≡ false) (z : has noEnd ps ≡ false) where
+  pub stop-is : (es : List End) → firstStop B ps es ≡ this (has (firstPlace ps es) ps && covers B (firstPlace ps es) es) (firstPlace ps es) (firstOr noEnd B es)
+  unfolding firstOr
+  stop-is [] = sym (ap (λ b. this (b && false) noEnd noEnd) z)
+  stop-is (e ∷ es) = go (B e) (has e ps) refl refl (stop-is es)
+    where
+      s : End
+      s = firstPlace ps es
+
+      -- an end without a place is not the first place
+      other : (x b : Bool) → sameEnd e s ≡ b → has e ps ≡ false → (has s ps && (b || x)) ≡ (has s ps && x)
+      other x true h k = (λ i. (ap (λ y. has y ps) (sym (sameEnd-eq e s h)) ∙ k) i && true) ∙ sym (λ i. (ap (λ y. has y ps) (sym (sameEnd-eq e s h)) ∙ k) i && x)
+      other x false h k = refl
+
+      go : (b h : Bool) → B e ≡ b → has e ps ≡ h → firstStop B ps es ≡ this (has s ps && covers B s es) s (firstOr noEnd B es)
+          → this (b || h) e (firstStop B ps es) ≡ this (has (this h e s) ps && (sameEnd e (this h e s) || (not b && covers B (this h e s) es))) (this h e s) (this b e (firstOr noEnd B es))
+      go true true b h ih = absurd (true≢false (sym b ∙ plain e h))
+      go true false b h ih = sym (ap (λ t. this t s e) (other false (sameEnd e s) refl h ∙ and-no (has s ps)))
+      go false true b h ih = sym (λ i. this (h i && (sameEnd-refl e i || covers B e es)) e (firstOr noEnd B es))
+      go false false b h ih = ih ∙ sym (ap (λ t. this t s (firstOr noEnd B es)) (other (covers B s es) (sameEnd e s) refl h))
 
 -- the most breakers on a path whose first place is p
 abbrev pub ownInSeries : (Vertex → List End) → List Vertex → (End → Bool) → List End → End → ℕ

@@ -47,7 +47,7 @@ first-with B q (e ∷ es) = go (B e) (sameEnd e q) refl (first-with B q es)
     go false false h ih = ih
 
 -- the first breaker of a path is on it
-first-on : (B : End → Bool) → B noEnd ≡ false → (es : List End) → B (firstOr noEnd B es) ≡ true → has (firstOr noEnd B es) es ≡ true
+pub first-on : (B : End → Bool) → B noEnd ≡ false → (es : List End) → B (firstOr noEnd B es) ≡ true → has (firstOr noEnd B es) es ≡ true
 unfolding firstOr any
 first-on B n [] h = absurd (true≢false (sym h ∙ n))
 first-on B n (e ∷ es) h = go (B e) h (first-on B n es)

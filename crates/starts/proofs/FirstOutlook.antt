@@ -12,7 +12,7 @@ use Rattle.savings.specs.Breakers.{endAt}
 use Rattle.theory.specs.Ends.{closed-end}
 use Rattle.theory.specs.Best.{Accepted, place-closed}
 use Rattle.tree.specs.Linked.{endCode}
-use Rattle.outage.specs.Held.{HoldsTrips}
+use Rattle.paths.specs.Held.{HoldsTrips}
 use Rattle.sets.specs.Sets.{upstreamAt, weightAt, inSeriesAt}
 use Rattle.sets.specs.Start.{start-upstream}
 use Rattle.starts.specs.Outlook.{Outlook}

@@ -3,7 +3,6 @@
 use Prim.Native.Nat.{ℕ, suc, _≤_, max}
 use mathlib.Core.Path.{_≡_, refl, sym, ap, _∙_, fun-ext}
 use mathlib.Core.Bool.{Bool, true, false, or-false}
-use mathlib.Core.Logic.{⊎-elim}
 use mathlib.Core.List.{List, [], _∷_, List·Memᴰ}
 use native.Mathlib.Omega.{arith}
 use lib.Dec.{eqb}
@@ -21,19 +20,19 @@ use Rattle.savings.specs.Breakers.{endAt}
 use Rattle.savings.specs.Totals.{breakersWith}
 use Rattle.theory.specs.Ends.{closed-end, in-numbers, numbers-in}
 use Rattle.theory.specs.Radial.{In, listed-vertex, station-in}
-use Rattle.theory.specs.Forest.{end-first}
 use Rattle.theory.specs.Above.{breakers-count}
-use Rattle.theory.specs.Behind.{far-not, vertices, listed-in}
+use Rattle.theory.specs.Behind.{vertices, listed-in}
 use Rattle.theory.specs.Best.{Accepted, place-closed}
-use Rattle.tree.specs.Outwards.{firstEnd, nearEnd}
-use Rattle.outage.proofs.Paths.{near-end, station-far}
+use Rattle.tree.proofs.Near.{far-begins}
 use Rattle.sets.specs.InSeries.{most, most-of, most-less}
 use Rattle.sets.specs.Stops.{firstPlace}
 use Rattle.sets.specs.Sets.{route, lines}
 use Rattle.sets.specs.Apart.{placeEnds}
 use Rattle.sets.specs.Start.{ownInSeriesAt}
-use Rattle.paths.specs.Held.{placeOn}
-use Rattle.starts.specs.Own.{farEnd, farRoute, farPlace}
+use Rattle.marks.specs.Held.{placeOn}
+use Rattle.paths.specs.Meets.{farRoute}
+use Rattle.paths.proofs.FarEnds.{far-path, fed-path}
+use Rattle.starts.specs.Own.{farEnd, farPlace}
 use Rattle.starts.proofs.OnEnds.{place-in, on-is}
 
 -- the breakers on a path are those of the network with no place chosen
@@ -46,15 +45,6 @@ abbrev pub ownOf : Network → ℕ → ℕ → ℕ
 ownOf N p l = max (on (eqb (placeOn N (firstPlace (placeEnds N) (route N l))) p) (breakersOn N (route N l))) (on (eqb (farPlace N l) p) (breakersOn N (farRoute N l)))
 
 module _ (N : Network) (a : Accepted N) (l : ℕ) (i : 1 ≤ l) (j : l ≤ length (N .lines)) where
-  -- the path of the station that a line feeds
-  far-path : isOpen N (farEnd N l) ≡ false → pathToHV N (station (stationAt N (farEnd N l))) ≡ farRoute N l
-  unfolding firstEnd
-  far-path c =
-      let n = near-end N (a .read) (a .rules) l i j in
-      ⊎-elim (λ p. absurd (far-not (nearEnd N l) (ap firstEnd (sym p ∙ ap (λ k. pathToHV N (line k)) (n .own) ∙ n .path))))
-      (λ p. p ∙ ap (λ k. farEnd N l ∷ route N k) (n .own))
-      (end-first N (a .read) (a .rules) (farEnd N l) c)
-
   far-listed : isOpen N (farEnd N l) ≡ false → List·Memᴰ (station (stationAt N (farEnd N l))) (vertices N)
   far-listed c = let x = closed-end N (farEnd N l) c in listed-vertex N (a .read) (station (stationAt N (farEnd N l))) (station-in N (a .read) (farEnd N l) (x .0) (x .1))
 
@@ -92,10 +82,10 @@ module _ (N : Network) (a : Accepted N) (p : ℕ) (i : 1 ≤ p) (j : p ≤ lengt
       go : (es : List End) → pathToHV N (station s) ≡ es → count (station s) ≤ most (λ l. true) (ownOf N p) (lines N)
       go [] e = absurd (not-there (ap (λ es. sameEnd (endAt N p) (firstPlace (placeEnds N) es)) (sym e) ∙ h))
       go (f ∷ fs) e =
-          let t = station-far N (a .read) (a .rules) s f fs k e in
-          let x = closed-end N f (t .1) in
-          let q : pathToHV N (station s) ≡ farRoute N (f .line) = e ∙ (λ i. t .3 i ∷ sym (t .2) i) in
-          let o : isOpen N (farEnd N (f .line)) ≡ false = ap (isOpen N) (sym (t .3)) ∙ t .1 in
+          let t = far-begins N (a .read) (a .rules) s k f fs e in
+          let x = closed-end N f (t .closed) in
+          let q : pathToHV N (station s) ≡ farRoute N (f .line) = fed-path N (a .read) (a .rules) s f t in
+          let o : isOpen N (farEnd N (f .line)) ≡ false = ap (isOpen N) (sym (t .is-far)) ∙ t .closed in
           let r : farPlace N (f .line) ≡ placeOn N (firstPlace (placeEnds N) (farRoute N (f .line)))
           = ap (λ b. elim b as (λ _. ℕ) [ true ↦ 0 | false ↦ placeOn N (firstPlace (placeEnds N) (farRoute N (f .line))) ]) o in
           omega (
@@ -129,7 +119,7 @@ module _ (N : Network) (a : Accepted N) (p : ℕ) (i : 1 ≤ p) (j : p ≤ lengt
         where
           found : isOpen N (farEnd N l) ≡ false → (b : Bool) → eqb (placeOn N (firstPlace (placeEnds N) (farRoute N l))) p ≡ b → on b (breakersOn N (farRoute N l)) ≤ ownInSeriesAt N (endAt N p)
           found c true h =
-              let q = far-path N a l x y c in
+              let q = far-path N (a .read) (a .rules) l x y c in
               omega (
                 arith,
                 no-places N (pathToHV N (station (stationAt N (farEnd N l)))),

@@ -18,17 +18,10 @@ use Rattle.sets.specs.Stops.{firstStop}
 use Rattle.sets.specs.Sets.{route, load, lines}
 use Rattle.sets.specs.Apart.{placeEnds}
 use Rattle.sets.specs.Start.{ownAt}
-use Rattle.paths.specs.Held.{placeOn, HoldsStops}
-use Rattle.starts.proofs.OnEnds.{on-most, on-is}
-
--- the place where a line stops
-abbrev pub stopOf : Network → ℕ → ℕ
-stopOf N l = placeOn N (firstStop (breakersWith N []) (placeEnds N) (route N l))
+use Rattle.starts.specs.Own.{stopOf}
+use Rattle.starts.proofs.OnEnds.{on-is}
 
 module _ (N : Network) (a : Accepted N) where
-  pub stop-few : (stops : List ℕ) → HoldsStops N stops → (l : ℕ) → 1 ≤ l → l ≤ length (N .lines) → getD stops (l - 1) 0 ≤ 64
-  stop-few stops h l i j = omega (arith, h l i j, on-most N (firstStop (breakersWith N []) (placeEnds N) (route N l)), a .read .placeCount)
-
   -- the weights of some of the lines together
   pub weights-few : (test : ℕ → Bool) → sumOver (λ l. on (test l) (load N l)) (lines N) ≤ 768000000
   weights-few test = omega (arith, sum-up-to _ 1000000 (λ l. on-up-to (test l) (load N l) 1000000 (read-sized N (a .read) .weight l)) (lines N), numbers-length 1 (length (N .lines)), read-sized N (a .read) .lineCount)

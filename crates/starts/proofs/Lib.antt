@@ -8,3 +8,4 @@ pub mod FarStations
 pub mod Raising
 pub mod Series
 pub mod FirstOutlook
+pub mod Stopping

@@ -19,7 +19,7 @@ use Rattle.theory.specs.Ends.{any-in, in-numbers, numbers-in}
 use Rattle.theory.specs.Best.{Accepted}
 use Rattle.sets.specs.Ways.{has}
 use Rattle.sets.specs.Apart.{placeEnds, ends-apart}
-use Rattle.paths.specs.Held.{placeOn}
+use Rattle.marks.specs.Held.{placeOn}
 
 -- the first element that passes a test is one that does, if any does
 pub first-cases : {A : Type 0} (other : A) (test : A → Bool) (xs : List A)

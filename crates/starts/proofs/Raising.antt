@@ -18,8 +18,10 @@ use Rattle.sets.specs.Stops.{firstPlace}
 use Rattle.sets.specs.Sets.{route}
 use Rattle.sets.specs.Apart.{placeEnds}
 use Rattle.sets.specs.Start.{ownInSeriesAt}
-use Rattle.paths.specs.Held.{placeOn, HoldsFirsts}
-use Rattle.starts.specs.Own.{farRoute, farPlace}
+use Rattle.marks.specs.Held.{placeOn}
+use Rattle.paths.specs.Held.{HoldsFirsts}
+use Rattle.paths.specs.Meets.{farRoute}
+use Rattle.starts.specs.Own.{farPlace}
 use Rattle.starts.proofs.Numbers.{mostFrom, most-first, most-none, most-all}
 use Rattle.starts.proofs.OnEnds.{on-most}
 use Rattle.theory.specs.Gathering.{zeros}

@@ -9,7 +9,7 @@ use native.Mathlib.Omega.{arith}
 use lib.Dec.{eqb}
 use lib.ListN.{length}
 use borrow.Author.Tests.{eqb-true, eq-eqb, ne-eqb}
-use Rattle.model.specs.Lists.{any}
+use Rattle.model.specs.Lists.{any, firstOr}
 use Rattle.model.specs.Network.{Network}
 use Rattle.model.specs.Paths.{End, sameEnd, state, isBreaker, isOpen}
 use Rattle.model.specs.Outage.{noEnd}
@@ -58,9 +58,10 @@ module _ (N : Network) where
       let s : d .side ≡ e .side = omega (arith, p, q, h) in
       λ i. record { line = l i; side = s i }
 
-  upstream-some : (e : End) → Some (upstreamAt N [] e)
+  -- the first breaker of a path
+  breaker-some : (es : List End) → Some (firstOr noEnd (breakersWith N []) es)
   unfolding any
-  upstream-some e = ⊎-elim (λ x. inl (x .0)) (λ x. inr (closed (upstreamAt N [] e) (x .1))) (first-cases noEnd (breakersWith N []) (onward N e))
+  breaker-some es = ⊎-elim (λ x. inl (x .0)) (λ x. inr (closed (firstOr noEnd (breakersWith N []) es) (x .1))) (first-cases noEnd (breakersWith N []) es)
     where
       closed : (d : End) → breakersWith N [] d ≡ true → (1 ≤ d .line) × (1 ≤ d .side) × (d .side ≤ 2)
       closed d h =
@@ -69,13 +70,20 @@ module _ (N : Network) where
           let s = side-of N d c in
           (closed-end N d c .0, s .0, s .1)
 
-  -- two upstream breakers are the same where their codes are
-  upstream-codes : (d e : End) → eqb (endCode (upstreamAt N [] d)) (endCode (upstreamAt N [] e)) ≡ sameEnd (upstreamAt N [] d) (upstreamAt N [] e)
-  upstream-codes d e = go (ℕ-discrete (endCode (upstreamAt N [] d)) (endCode (upstreamAt N [] e))) (sameEnd (upstreamAt N [] d) (upstreamAt N [] e)) refl
+  -- the first breakers of two paths are the same where their codes are
+  pub breaker-codes : (ds es : List End)
+      → eqb (endCode (firstOr noEnd (breakersWith N []) ds)) (endCode (firstOr noEnd (breakersWith N []) es)) ≡ sameEnd (firstOr noEnd (breakersWith N []) ds) (firstOr noEnd (breakersWith N []) es)
+  breaker-codes ds es = go (ℕ-discrete (endCode d) (endCode e)) (sameEnd d e) refl
     where
-      go : Dec (endCode (upstreamAt N [] d) ≡ endCode (upstreamAt N [] e)) → (b : Bool) → sameEnd (upstreamAt N [] d) (upstreamAt N [] e) ≡ b → eqb (endCode (upstreamAt N [] d)) (endCode (upstreamAt N [] e)) ≡ b
+      d : End
+      d = firstOr noEnd (breakersWith N []) ds
+
+      e : End
+      e = firstOr noEnd (breakersWith N []) es
+
+      go : Dec (endCode d ≡ endCode e) → (b : Bool) → sameEnd d e ≡ b → eqb (endCode d) (endCode e) ≡ b
       go (yes q) true h = eq-eqb _ _ q
-      go (yes q) false h = absurd (true≢false (sym (ap (λ x. sameEnd x (upstreamAt N [] e)) (codes-apart _ _ (upstream-some d) (upstream-some e) q) ∙ sameEnd-refl (upstreamAt N [] e)) ∙ h))
+      go (yes q) false h = absurd (true≢false (sym (ap (λ x. sameEnd x e) (codes-apart _ _ (breaker-some ds) (breaker-some es) q) ∙ sameEnd-refl e) ∙ h))
       go (no q) true h = absurd (q (ap (λ x. endCode x) (sameEnd-eq _ _ h)))
       go (no q) false h = ne-eqb _ _ q
 
@@ -105,7 +113,7 @@ module _ (N : Network) (a : Accepted N) (relations : List ℕ) (h : HoldsRelatio
 
   pub under-is : (upstreams : List ℕ) → HoldsUpstreams N upstreams → underIn relations upstreams p s ≡ (sameEnd (endAt N s) (endAt N p) || underAt N [] (endAt N s) (endAt N p))
   under-is upstreams n =
-      (λ t. behind-is t && ((λ t. eqb (n s k l t) (n p i j t)) ∙ upstream-codes N (endAt N s) (endAt N p)) t)
+      (λ t. behind-is t && ((λ t. eqb (n s k l t) (n p i j t)) ∙ breaker-codes N (onward N (endAt N s)) (onward N (endAt N p))) t)
       ∙ go (sameEnd (endAt N s) (endAt N p)) refl
     where
       b : Bool

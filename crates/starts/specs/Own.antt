@@ -3,27 +3,30 @@
 use Prim.Native.Nat.{ℕ, _+_, _*_, _≤_}
 use mathlib.Core.Path.{_≡_}
 use mathlib.Core.Bool.{Bool, true, false, _&&_, _||_}
-use mathlib.Core.List.{List, [], _∷_}
+use mathlib.Core.List.{List, []}
 use lib.Dec.{eqb}
 use lib.ListN.{length, getD}
 use Rattle.model.specs.Network.{Network}
 use Rattle.model.specs.Paths.{End, isOpen}
 use Rattle.savings.specs.Breakers.{endAt}
+use Rattle.savings.specs.Totals.{breakersWith}
 use Rattle.theory.specs.Behind.{far}
 use Rattle.tree.specs.Linked.{endCode}
 use Rattle.tree.specs.Outwards.{nearEnd}
-use Rattle.sets.specs.Stops.{firstPlace}
+use Rattle.sets.specs.Stops.{firstStop, firstPlace}
 use Rattle.sets.specs.Sets.{route, upstreamAt}
 use Rattle.sets.specs.Apart.{placeEnds}
 use Rattle.sets.specs.Start.{ownAt, ownInSeriesAt}
-use Rattle.paths.specs.Held.{placeOn}
+use Rattle.marks.specs.Held.{placeOn}
+use Rattle.paths.specs.Meets.{farRoute}
 
--- the far end of a line, and the path of its far station: the line's, from that end on
+-- the far end of a line
 abbrev pub farEnd : Network → ℕ → End
 farEnd N l = far (nearEnd N l)
 
-abbrev pub farRoute : Network → ℕ → List End
-farRoute N l = farEnd N l ∷ route N l
+-- the place where a line's path first meets a breaker or a place, 0 if that is a breaker
+abbrev pub stopOf : Network → ℕ → ℕ
+stopOf N l = placeOn N (firstStop (breakersWith N []) (placeEnds N) (route N l))
 
 -- the first place on the path of the station that a line feeds; 0 if it has none, or its far end is open
 abbrev pub farPlace : Network → ℕ → ℕ

@@ -6,25 +6,43 @@ ghost use lib.ListN.{length};
 ghost use Rattle.theory.specs.Best.{Accepted};
 ghost use Rattle.buffer.specs.Buffer.{networkIn};
 ghost use Rattle.relations.specs.Related.{HoldsRelations};
-ghost use Rattle.paths.specs.Held.{HoldsPlaces, HoldsFirsts, HoldsLines, HoldsSides, HoldsStops, HoldsCounts};
+ghost use Rattle.marks.specs.Held.{HoldsPlaces};
+ghost use Rattle.paths.specs.Held.{HoldsSides, HoldsTrips, HoldsCounts, HoldsFirsts};
 ghost use Rattle.starts.specs.Outlook.{Outlook};
-ghost use Prim.Native.Nat.{_≤_, _<_, max};
+ghost use Prim.Native.Nat.{_≤_, _<_};
 ghost use Rattle.savings.specs.Breakers.{endAt};
 ghost use Rattle.sets.specs.Sets.{weightAt, inSeriesAt};
-ghost use Rattle.model.specs.Rules.{breakersOn};
 ghost use Rattle.buffer.specs.Fits.{LineThere, PlaceThere};
-ghost use Rattle.outage.specs.Held.{HoldsTrips};
-ghost use Rattle.starts.specs.Own.{farRoute, farPlace, HoldsOwn, HoldsOwnInSeries, HoldsUpstreams, behindIn, underIn};
+ghost use Rattle.starts.specs.Own.{stopOf, farPlace, HoldsOwn, HoldsOwnInSeries, HoldsUpstreams, behindIn, underIn};
+
+// The place where a line's path first meets a breaker or a place, 0 if that is a breaker: the first place on the path, if the breaker
+// upstream of it is the one that trips for the line.
+fn stop_of(net: &buffer::Net, trips: &[u64; 768], firsts: &[u64; 768], line: usize) -> usize
+    requires { ⌜ Accepted (networkIn (now net)) × HoldsTrips (networkIn (now net)) (now trips)
+        × HoldsFirsts (networkIn (now net)) (now firsts) × LineThere (now net) line ⌝ }
+    ensures stop { λ r. ⌜ r ≡ stopOf (networkIn (now (net .entry))) line ⌝ }
+    ensures few { λ r. ⌜ r ≤ 64 ⌝ }
+{
+    let place = firsts[line - 1] as usize;
+    if place == 0 {
+        return 0;
+    }
+    if trips[line - 1] != trips[buffer::place_line(net, place) - 1] {
+        return 0;
+    }
+    place
+}
 
 // The weight of the lines whose path meets each place first, of the breakers and places. Entry 0 is for the lines that meet a
 // breaker first.
-fn own_weights(net: &buffer::Net, stops: &[u64; 768]) -> [u64; 65]
-    requires { ⌜ Accepted (networkIn (now net)) × HoldsStops (networkIn (now net)) (now stops) ⌝ }
+fn own_weights(net: &buffer::Net, trips: &[u64; 768], firsts: &[u64; 768]) -> [u64; 65]
+    requires { ⌜ Accepted (networkIn (now net)) × HoldsTrips (networkIn (now net)) (now trips)
+        × HoldsFirsts (networkIn (now net)) (now firsts) ⌝ }
     ensures { λ r. ⌜ HoldsOwn (networkIn (now (net .entry))) r ⌝ }
 {
     let mut own = [0u64; 65];
     for line in 1..buffer::line_count(net) + 1 {
-        let stop = stops[line - 1] as usize;
+        let stop = stop_of(net, trips, firsts, line);
         own[stop] = own[stop] + buffer::weight(net, line);
     }
     own
@@ -54,7 +72,9 @@ fn start_weight(
     upstreams: &[u64],
     p: usize,
 ) -> u64
-    requires { ⌜ Accepted (networkIn (now net)) × HoldsRelations (networkIn (now net)) (now relations) × HoldsOwn (networkIn (now net)) (now own) × HoldsUpstreams (networkIn (now net)) (now upstreams) × (64 < length (now upstreams)) × PlaceThere (now net) p ⌝ }
+    requires { ⌜ Accepted (networkIn (now net)) × HoldsRelations (networkIn (now net)) (now relations)
+        × HoldsOwn (networkIn (now net)) (now own) × HoldsUpstreams (networkIn (now net)) (now upstreams)
+        × (64 < length (now upstreams)) × PlaceThere (now net) p ⌝ }
     ensures { λ r. ⌜ r ≡ weightAt (networkIn (now (net .entry))) [] (endAt (networkIn (now (net .entry))) p) ⌝ }
 {
     let mut weight: u64 = 0;
@@ -66,25 +86,6 @@ fn start_weight(
     weight
 }
 
-// The larger of two numbers.
-fn larger(a: u64, b: u64) -> u64
-    ensures { λ r. ⌜ r ≡ max a b ⌝ }
-{
-    if a < b { b } else { a }
-}
-
-// The breakers on the path of the station that a line feeds: those on the line's, and its far end if that is one.
-fn far_count(net: &buffer::Net, sides: &[u64; 768], counts: &[u64; 768], line: usize) -> u64
-    requires { ⌜ Accepted (networkIn (now net)) × HoldsSides (networkIn (now net)) (now sides) × HoldsCounts (networkIn (now net)) (now counts) × LineThere (now net) line ⌝ }
-    ensures { λ r. ⌜ r ≡ breakersOn (networkIn (now (net .entry))) (farRoute (networkIn (now (net .entry))) line) ⌝ }
-{
-    if buffer::end_state(net, line, 3 - sides[line - 1] as usize) == 1 {
-        counts[line - 1] + 1
-    } else {
-        counts[line - 1]
-    }
-}
-
 // The first place on the path of the station that a line feeds: that on its far end, or else the first on the line's. It is 0 if
 // there is none, or the far end is open.
 fn far_place(
@@ -94,18 +95,15 @@ fn far_place(
     firsts: &[u64; 768],
     line: usize,
 ) -> usize
-    requires { ⌜ Accepted (networkIn (now net)) × HoldsSides (networkIn (now net)) (now sides) × HoldsPlaces (networkIn (now net)) (now marks) × HoldsFirsts (networkIn (now net)) (now firsts) × LineThere (now net) line ⌝ }
+    requires { ⌜ Accepted (networkIn (now net)) × HoldsSides (networkIn (now net)) (now sides)
+        × HoldsPlaces (networkIn (now net)) (now marks) × HoldsFirsts (networkIn (now net)) (now firsts)
+        × LineThere (now net) line ⌝ }
     ensures { λ r. ⌜ (r ≡ farPlace (networkIn (now (net .entry))) line) × (r ≤ 64) ⌝ }
 {
-    let side = 3 - sides[line - 1] as usize;
-    if buffer::end_state(net, line, side) == 2 {
+    if buffer::end_state(net, line, 3 - sides[line - 1] as usize) == 2 {
         return 0;
     }
-    let place = marks[2 * line + side - 2] as usize;
-    if place != 0 {
-        return place;
-    }
-    firsts[line - 1] as usize
+    paths::first_beyond(net, sides, marks, firsts, line) as usize
 }
 
 // The most breakers on a path of a line or a station that meets each place first, of the places. Entry 0 is for the paths without
@@ -117,28 +115,32 @@ fn own_in_series(
     firsts: &[u64; 768],
     counts: &[u64; 768],
 ) -> [u64; 65]
-    requires { ⌜ Accepted (networkIn (now net)) × HoldsSides (networkIn (now net)) (now sides) × HoldsPlaces (networkIn (now net)) (now marks) × HoldsFirsts (networkIn (now net)) (now firsts) × HoldsCounts (networkIn (now net)) (now counts) ⌝ }
+    requires { ⌜ Accepted (networkIn (now net)) × HoldsSides (networkIn (now net)) (now sides)
+        × HoldsPlaces (networkIn (now net)) (now marks) × HoldsFirsts (networkIn (now net)) (now firsts)
+        × HoldsCounts (networkIn (now net)) (now counts) ⌝ }
     ensures { λ r. ⌜ HoldsOwnInSeries (networkIn (now (net .entry))) r ⌝ }
 {
     let mut in_series = [0u64; 65];
     for line in 1..buffer::line_count(net) + 1 {
         let first = firsts[line - 1] as usize;
-        in_series[first] = larger(in_series[first], counts[line - 1]);
+        in_series[first] = paths::larger(in_series[first], counts[line - 1]);
         let beyond = far_place(net, sides, marks, firsts, line);
-        in_series[beyond] = larger(in_series[beyond], far_count(net, sides, counts, line));
+        let count = paths::count_beyond(net, sides, counts, line);
+        in_series[beyond] = paths::larger(in_series[beyond], count);
     }
     in_series
 }
 
 // The most breakers in series with a place before any is chosen: the most of what is its own, or of a place behind it.
 fn start_in_series(net: &buffer::Net, relations: &[u64; 4225], own: &[u64; 65], p: usize) -> u64
-    requires { ⌜ Accepted (networkIn (now net)) × HoldsRelations (networkIn (now net)) (now relations) × HoldsOwnInSeries (networkIn (now net)) (now own) × PlaceThere (now net) p ⌝ }
+    requires { ⌜ Accepted (networkIn (now net)) × HoldsRelations (networkIn (now net)) (now relations)
+        × HoldsOwnInSeries (networkIn (now net)) (now own) × PlaceThere (now net) p ⌝ }
     ensures { λ r. ⌜ r ≡ inSeriesAt (networkIn (now (net .entry))) [] (endAt (networkIn (now (net .entry))) p) ⌝ }
 {
     let mut in_series: u64 = 0;
     for s in 1..buffer::place_count(net) + 1 {
         if behind(relations, p, s) {
-            in_series = larger(in_series, own[s]);
+            in_series = paths::larger(in_series, own[s]);
         }
     }
     in_series
@@ -163,7 +165,9 @@ fn fill_values(
     in_series: &[u64; 65],
     outlook: &mut [u64],
 )
-    requires { ⌜ Accepted (networkIn (now net)) × HoldsRelations (networkIn (now net)) (now relations) × HoldsOwn (networkIn (now net)) (now own) × HoldsOwnInSeries (networkIn (now net)) (now in_series) × HoldsUpstreams (networkIn (now net)) (now outlook) × (length (now outlook) ≡ 195) ⌝ }
+    requires { ⌜ Accepted (networkIn (now net)) × HoldsRelations (networkIn (now net)) (now relations)
+        × HoldsOwn (networkIn (now net)) (now own) × HoldsOwnInSeries (networkIn (now net)) (now in_series)
+        × HoldsUpstreams (networkIn (now net)) (now outlook) × (length (now outlook) ≡ 195) ⌝ }
     ensures { λ r. ⌜ Outlook (networkIn (now (net .entry))) [] 1 (now (outlook .exit)) ⌝ }
 {
     for p in 1..buffer::place_count(net) + 1 {
@@ -181,7 +185,9 @@ fn fill_start(
     in_series: &[u64; 65],
     outlook: &mut [u64; 195],
 )
-    requires { ⌜ Accepted (networkIn (now net)) × HoldsTrips (networkIn (now net)) (now trips) × HoldsRelations (networkIn (now net)) (now relations) × HoldsOwn (networkIn (now net)) (now own) × HoldsOwnInSeries (networkIn (now net)) (now in_series) ⌝ }
+    requires { ⌜ Accepted (networkIn (now net)) × HoldsTrips (networkIn (now net)) (now trips)
+        × HoldsRelations (networkIn (now net)) (now relations) × HoldsOwn (networkIn (now net)) (now own)
+        × HoldsOwnInSeries (networkIn (now net)) (now in_series) ⌝ }
     ensures { λ r. ⌜ Outlook (networkIn (now (net .entry))) [] 1 (now (outlook .exit)) × (length (now (outlook .exit)) ≡ 195) ⌝ }
 {
     fill_upstreams(net, trips, outlook);
@@ -194,16 +200,18 @@ pub fn start_outlook(
     sides: &[u64; 768],
     marks: &[u64; 1537],
     trips: &[u64; 768],
-    firsts: &[u64; 768],
-    stops: &[u64; 768],
     counts: &[u64; 768],
+    firsts: &[u64; 768],
     relations: &[u64; 4225],
     outlook: &mut [u64; 195],
 )
-    requires { ⌜ Accepted (networkIn (now net)) × HoldsSides (networkIn (now net)) (now sides) × HoldsPlaces (networkIn (now net)) (now marks) × HoldsLines (networkIn (now net)) (now trips) (now firsts) (now stops) (now counts) × HoldsRelations (networkIn (now net)) (now relations) ⌝ }
+    requires { ⌜ Accepted (networkIn (now net)) × HoldsSides (networkIn (now net)) (now sides)
+        × HoldsTrips (networkIn (now net)) (now trips) × HoldsCounts (networkIn (now net)) (now counts) ⌝ }
+    requires { ⌜ HoldsPlaces (networkIn (now net)) (now marks) × HoldsFirsts (networkIn (now net)) (now firsts)
+        × HoldsRelations (networkIn (now net)) (now relations) ⌝ }
     ensures { λ r. ⌜ Outlook (networkIn (now (net .entry))) [] 1 (now (outlook .exit)) × (length (now (outlook .exit)) ≡ 195) ⌝ }
 {
-    let own = own_weights(net, stops);
+    let own = own_weights(net, trips, firsts);
     let in_series = own_in_series(net, sides, marks, firsts, counts);
     fill_start(net, trips, relations, &own, &in_series, outlook);
 }

@@ -21,7 +21,8 @@ use Rattle.theory.specs.Radial.{Rules, In, station-in}
 use Rattle.theory.specs.Behind.{none-of, append-once, numbers-once}
 use Rattle.tree.specs.Outwards.{nearEnd, feeder}
 use Rattle.tree.specs.Queue.{Laid, Reached}
-use Rattle.tree.proofs.Near.{NearEnd, near-end, far-end}
+use Rattle.tree.specs.Feeding.{Near}
+use Rattle.tree.proofs.Near.{near-end, far-end}
 use Rattle.tree.proofs.Leaving.{Leaves}
 
 -- ── places in a list ──
@@ -103,7 +104,7 @@ module _ (N : Network) where
         go zero l i h = absurd (omega (arith, ap length (near-end N d r l i .path)))
         go (suc k) l i h = up (isHV N (stationAt N (nearEnd N l))) refl (λ m j q. go k m j q)
           where
-            n : NearEnd N l
+            n : Near N l (nearEnd N l)
             n = near-end N d r l i
 
             s : In N (station (stationAt N (nearEnd N l)))

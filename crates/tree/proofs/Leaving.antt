@@ -19,7 +19,8 @@ use Rattle.theory.specs.Behind.{far, keep-once, far-not, closed-once, side-of}
 use Rattle.tree.specs.Linked.{endCode, endsAt}
 use Rattle.tree.specs.Outwards.{nearEnd, feeder}
 use Rattle.tree.specs.Queue.{leaving}
-use Rattle.tree.proofs.Near.{FarEnd, near-is, feeder-none, feeder-is, near-end, hv-path}
+use Rattle.tree.specs.Feeding.{FarEnd}
+use Rattle.tree.proofs.Near.{near-is, feeder-none, feeder-is, near-end, hv-path}
 
 -- the ends are the near ends of the lines whose near station it is, and these have one feeding line
 pub record Leaves (N : Network) (s : ℕ) (es : List End) (fed : ℕ) : Type 0 where

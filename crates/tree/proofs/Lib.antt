@@ -1,9 +1,10 @@
 pub mod Codes
 pub mod Linking
+pub mod Fitting
 pub mod Near
+pub mod Lengths
 pub mod Adding
 pub mod Following
 pub mod Leaving
 pub mod Laying
 pub mod Queueing
-pub mod Counting

@@ -22,7 +22,8 @@ use Rattle.tree.specs.Linked.{endCode, codeEnd, Chain, endsAt, Linked}
 use Rattle.tree.specs.Outwards.{nearEnd, feeder, Outwards}
 use Rattle.tree.specs.Codes.{CodeThere}
 use Rattle.tree.specs.Queue.{leaving, Room, Added, Laid, Told, Queue, HVUpTo, Reached}
-use Rattle.tree.proofs.Near.{FarEnd, near-end, hv-path, far-first}
+use Rattle.tree.specs.Feeding.{FarEnd}
+use Rattle.tree.proofs.Near.{near-end, hv-path, far-first}
 use Rattle.tree.proofs.Leaving.{Leaves, leaves-hv, leaves-far}
 use Rattle.tree.proofs.Adding.{near-length, feed-length, order-length, order-after, told-after}
 use Rattle.tree.proofs.Laying.{place-of, at-place, laid-count, laid-same, laid-more, laid-all, laid-full}

@@ -2,4 +2,4 @@ pub mod Linked
 pub mod Outwards
 pub mod Codes
 pub mod Queue
-pub mod Counts
+pub mod Feeding

@@ -1,22 +1,18 @@
-// The tree of a radial network: lists of the closed ends at each station, the lines from the HV stations outwards, and the
-// series rule along them. An end has a code: 1 and 2 are the ends of line 1, 3 and 4 those of line 2; 0 is none.
-ghost use Prim.Native.Nat.{ℕ, _+_, _*_, _≤_, _<_};
+// The tree of a radial network: lists of the closed ends at each station, and the lines from the HV stations outwards. An end has a
+// code: 1 and 2 are the ends of line 1, 3 and 4 those of line 2; 0 is none.
+ghost use Prim.Native.Nat.{ℕ, _+_, _≤_, _<_};
 ghost use mathlib.Core.Path.{_≡_};
 ghost use mathlib.Core.Bool.{not};
 ghost use mathlib.Core.List.{List, []};
 ghost use lib.ListN.{length, getD, take};
-ghost use Rattle.model.specs.Paths.{End, isBreaker, isOpen, stationAt};
-ghost use Rattle.model.specs.Rules.{seriesBroken};
-ghost use Rattle.graphs.specs.Sum.{on};
+ghost use Rattle.model.specs.Paths.{End, isOpen, stationAt};
 ghost use Rattle.theory.specs.Reading.{Read};
 ghost use Rattle.theory.specs.Radial.{Rules};
 ghost use Rattle.buffer.specs.Buffer.{networkIn};
-ghost use Rattle.buffer.specs.Fits.{EndThere, endIn};
 ghost use Rattle.tree.specs.Linked.{codeEnd, Chain, Linked};
 ghost use Rattle.tree.specs.Outwards.{Outwards};
 ghost use Rattle.tree.specs.Codes.{CodeThere};
 ghost use Rattle.tree.specs.Queue.{leaving, Room, Added, Queue, Reached};
-ghost use Rattle.tree.specs.Counts.{pathBreakers, Fed};
 
 // Whether the end with a code is closed.
 fn is_closed(net: &buffer::Net, code: usize) -> bool
@@ -29,14 +25,16 @@ fn is_closed(net: &buffer::Net, code: usize) -> bool
 // The station that the end with a code is at.
 fn station_of(net: &buffer::Net, code: usize) -> usize
     requires { ⌜ CodeThere (networkIn (now net)) code ⌝ }
-    ensures { λ r. ⌜ (r ≡ stationAt (networkIn (now (net .entry))) (codeEnd code)) × (1 ≤ r) × (r ≤ length (networkIn (now (net .entry)) .stations)) ⌝ }
+    ensures { λ r. ⌜ (r ≡ stationAt (networkIn (now (net .entry))) (codeEnd code)) × (1 ≤ r)
+        × (r ≤ length (networkIn (now (net .entry)) .stations)) ⌝ }
 {
     buffer::end_station(net, (code + 1) / 2, 2 - code % 2)
 }
 
 // Every station's list is empty.
 fn clear(chains: &mut [u64; 512], nexts: &mut [u64; 1536])
-    ensures { λ r. ⌜ ((k : ℕ) → getD (now (chains .exit)) k 0 ≡ 0) × (length (now (chains .exit)) ≡ 512) × (length (now (nexts .exit)) ≡ 1536) ⌝ }
+    ensures { λ r. ⌜ ((k : ℕ) → getD (now (chains .exit)) k 0 ≡ 0) × (length (now (chains .exit)) ≡ 512)
+        × (length (now (nexts .exit)) ≡ 1536) ⌝ }
 {
     *chains = [0; 512];
     *nexts = [0; 1536];
@@ -61,7 +59,8 @@ pub fn link_ends(net: &buffer::Net, chains: &mut [u64; 512], nexts: &mut [u64; 1
 
 // No line is noted.
 fn blank(sides: &mut [u64; 768], feeders: &mut [u64; 768], order: &mut [u64; 768])
-    ensures { λ r. ⌜ (length (now (sides .exit)) ≡ 768) × (length (now (feeders .exit)) ≡ 768) × (length (now (order .exit)) ≡ 768) ⌝ }
+    ensures { λ r. ⌜ (length (now (sides .exit)) ≡ 768) × (length (now (feeders .exit)) ≡ 768)
+        × (length (now (order .exit)) ≡ 768) ⌝ }
 {
     *sides = [0; 768];
     *feeders = [0; 768];
@@ -81,7 +80,9 @@ fn append(
     count: usize,
 ) -> usize
     requires { ⌜ Room (now nexts) first came count ⌝ }
-    ensures { λ r. ⌜ ((most : ℕ) (es : List End) → Chain most (now (nexts .entry)) first es → Added (leaving came es) fed count (now (sides .entry)) (now (feeders .entry)) (now (order .entry)) (now (sides .exit)) (now (feeders .exit)) (now (order .exit)) r) ⌝ }
+    ensures { λ r. ⌜ ((most : ℕ) (es : List End) → Chain most (now (nexts .entry)) first es
+        → Added (leaving came es) fed count (now (sides .entry)) (now (feeders .entry)) (now (order .entry)) (now (sides .exit))
+        (now (feeders .exit)) (now (order .exit)) r) ⌝ }
 {
     let mut n = count;
     let mut code = first;
@@ -107,8 +108,10 @@ fn from_hv(
     feeders: &mut [u64; 768],
     order: &mut [u64; 768],
 ) -> usize
-    requires { ⌜ Read (networkIn (now net)) × Rules (networkIn (now net)) × Linked (networkIn (now net)) (now chains) (now nexts) ⌝ }
-    ensures { λ r. ⌜ Queue (networkIn (now (net .entry))) (Reached (networkIn (now (net .entry))) []) (now (sides .exit)) (now (feeders .exit)) (now (order .exit)) r ⌝ }
+    requires { ⌜ Read (networkIn (now net)) × Rules (networkIn (now net))
+        × Linked (networkIn (now net)) (now chains) (now nexts) ⌝ }
+    ensures { λ r. ⌜ Queue (networkIn (now (net .entry))) (Reached (networkIn (now (net .entry))) []) (now (sides .exit))
+        (now (feeders .exit)) (now (order .exit)) r ⌝ }
 {
     blank(sides, feeders, order);
     let mut n = 0;
@@ -132,9 +135,12 @@ fn from_line(
     i: usize,
     n: usize,
 ) -> usize
-    requires { ⌜ Read (networkIn (now net)) × Rules (networkIn (now net)) × Linked (networkIn (now net)) (now chains) (now nexts) ⌝ }
-    requires { ⌜ Queue (networkIn (now net)) (Reached (networkIn (now net)) (take i (now order))) (now sides) (now feeders) (now order) n × (i < n) ⌝ }
-    ensures { λ r. ⌜ Queue (networkIn (now (net .entry))) (Reached (networkIn (now (net .entry))) (take (i + 1) (now (order .exit)))) (now (sides .exit)) (now (feeders .exit)) (now (order .exit)) r × (i < r) ⌝ }
+    requires { ⌜ Read (networkIn (now net)) × Rules (networkIn (now net))
+        × Linked (networkIn (now net)) (now chains) (now nexts) ⌝ }
+    requires { ⌜ Queue (networkIn (now net)) (Reached (networkIn (now net)) (take i (now order))) (now sides) (now feeders)
+        (now order) n × (i < n) ⌝ }
+    ensures { λ r. ⌜ Queue (networkIn (now (net .entry))) (Reached (networkIn (now (net .entry)))
+        (take (i + 1) (now (order .exit)))) (now (sides .exit)) (now (feeders .exit)) (now (order .exit)) r × (i < r) ⌝ }
 {
     let line = order[i] as usize;
     let code = 2 * line + 1 - sides[line - 1] as usize;
@@ -163,7 +169,8 @@ pub fn outwards(
     feeders: &mut [u64; 768],
     order: &mut [u64; 768],
 )
-    requires { ⌜ Read (networkIn (now net)) × Rules (networkIn (now net)) × Linked (networkIn (now net)) (now chains) (now nexts) ⌝ }
+    requires { ⌜ Read (networkIn (now net)) × Rules (networkIn (now net))
+        × Linked (networkIn (now net)) (now chains) (now nexts) ⌝ }
     ensures { λ r. ⌜ Outwards (networkIn (now (net .entry))) (now (sides .exit)) (now (feeders .exit)) (now (order .exit)) ⌝ }
 {
     let mut n = from_hv(net, chains, nexts, sides, feeders, order);
@@ -172,63 +179,4 @@ pub fn outwards(
         n = from_line(net, chains, nexts, sides, feeders, order, i, n);
         i += 1;
     }
-}
-
-// 1 if an end, 1 or 2, of a line is a breaker, and 0 if not.
-fn breaker(net: &buffer::Net, line: usize, side: usize) -> u64
-    requires { ⌜ EndThere (now net) line side ⌝ }
-    ensures { λ r. ⌜ (r ≡ on (isBreaker (networkIn (now (net .entry))) (endIn line side)) 1) × (r ≤ 1) ⌝ }
-{
-    if buffer::end_state(net, line, side) == 1 {
-        1
-    } else {
-        0
-    }
-}
-
-// The breakers on a line's path to the HV station, from those on the path of the line that feeds it.
-fn path_breakers(
-    net: &buffer::Net,
-    sides: &[u64; 768],
-    feeders: &[u64; 768],
-    counts: &[u64; 768],
-    line: usize,
-) -> u64
-    requires { ⌜ Read (networkIn (now net)) × Rules (networkIn (now net)) × Fed (networkIn (now net)) (now sides) (now feeders) (now counts) line ⌝ }
-    ensures { λ r. ⌜ (r ≡ pathBreakers (networkIn (now (net .entry))) line) × (r ≤ 10) ⌝ }
-{
-    let own = breaker(net, line, sides[line - 1] as usize);
-    let fed = feeders[line - 1] as usize;
-    if fed == 0 {
-        return own;
-    }
-    own + breaker(net, fed, 3 - sides[fed - 1] as usize) + counts[fed - 1]
-}
-
-// No breaker is counted.
-fn no_counts() -> [u64; 768] {
-    [0; 768]
-}
-
-// Whether a path from an HV station passes more breakers than the series rule allows.
-pub fn over_series(
-    net: &buffer::Net,
-    sides: &[u64; 768],
-    feeders: &[u64; 768],
-    order: &[u64; 768],
-) -> bool
-    requires { ⌜ Read (networkIn (now net)) × Rules (networkIn (now net)) × Outwards (networkIn (now net)) (now sides) (now feeders) (now order) ⌝ }
-    ensures { λ r. ⌜ r ≡ seriesBroken (networkIn (now (net .entry))) ⌝ }
-{
-    let series = buffer::series(net);
-    let mut counts = no_counts();
-    for i in 0..buffer::line_count(net) {
-        let line = order[i] as usize;
-        let count = path_breakers(net, sides, feeders, &counts, line);
-        if series < count + breaker(net, line, 3 - sides[line - 1] as usize) {
-            return true;
-        }
-        counts[line - 1] = count;
-    }
-    false
 }

@@ -6,8 +6,6 @@ use lib.ListN.{take, drop}
 use Rattle.answers.proofs.Members.{Put, put-none, put-more, put-all}
 use Rattle.answers.proofs.put_numbers.Statement.{statement}
 use Rattle.answers.proofs.put_numbers.Tie as tie
-use Rattle.answers.proofs.put_numbers.Reads as reads
-use Rattle.answers.proofs.put_numbers.Lts as lts
 
 abbrev Inv-loop : tie.InvT-loop
 Inv-loop list count lent₀ i₀ lent i = (i ≤ count) × Put list lent₀ i lent

@@ -5,22 +5,12 @@ use native.Mathlib.Omega.{arith}
 use borrow.Author.Needs.{needs}
 use Rattle.engine.proofs.search.Statement.{statement}
 use Rattle.engine.proofs.search.Tie as tie
-use Rattle.engine.proofs.search.Reads as reads
-use Rattle.engine.proofs.search.Lts as lts
-use Rattle.engine.proofs.load_search.Reads as load-search-reads
-use Rattle.answers.proofs.put_numbers.Reads as put-numbers-reads
 
 returns : tie.Need-returns
 returns c = short-refused (c .before .before .before .before .args .file .now) (c .before .before .before .before .args .members .now) (c .before .short-members .ensures .0 (c .if1 .taken))
 
-load-search-requires : tie.Need-load-search-requires
-load-search-requires c κs = search needs
-
 enum-told : tie.Need-enum-told
 enum-told c = search needs
-
-enum-known-answer : tie.Need-enum-known-answer
-enum-known-answer c = search needs
 
 put-numbers-requires : tie.Need-put-numbers-requires
 unfolding AtMost16
@@ -28,9 +18,6 @@ put-numbers-requires c κs =
     let l = c .before .before .before .before .before in
     let few = subst AtMost16 (c .before .before .before .answer .given .1) (l .load-search .ensures .1) in
     (omega (arith, few, l .load-search .ensures .2), omega (arith, few, l .before .before .before .short-members .ensures .1 (l .before .before .if1 .left)))
-
-enum-known-answer-2 : tie.Need-enum-known-answer-2
-enum-known-answer-2 c = search needs
 
 put-numbers-requires-2 : tie.Need-put-numbers-requires-2
 unfolding AtMost16
@@ -47,9 +34,6 @@ returns-2 c =
     subst (λ r. Claims (a .file .now) (a .members .now) r (a .members .now)) (sym e)
     (file-refused (a .file .now) (a .members .now) (l .before .before .before .short-members .ensures .1 (l .before .before .if1 .left)) _ _ (l .load-search .last .1 .0) (subst (λ r. foundBy r (l .load-search .last .1 .0) ≡ fileFound (a .file .now)) e (l .load-search .ensures .0)))
 
-same-length : tie.Need-same-length
-same-length c = search needs
-
 returns-3 : tie.Need-returns-3
 returns-3 c =
     let l = c .before .before .before .before .before .before .before .before in
@@ -58,9 +42,6 @@ returns-3 c =
     let best = l .load-search .last .1 .0 in
     file-finished (a .file .now) (a .members .now) (l .before .before .before .short-members .ensures .1 (l .before .before .if1 .left)) (g .0 .0) (g .0 .1 .0) (g .0 .1 .1 .0) best _
     (subst AtMost16 (g .1) (l .load-search .ensures .1)) (l .load-search .ensures .2) (c .before .before .put-numbers .ensures) (subst (λ r. foundBy r best ≡ fileFound (a .file .now)) (g .1) (l .load-search .ensures .0))
-
-same-length-2 : tie.Need-same-length-2
-same-length-2 c = search needs
 
 returns-4 : tie.Need-returns-4
 returns-4 c =
@@ -77,16 +58,16 @@ search-spec =
     (tie.spec
     (search needs)
     returns
-    load-search-requires
+    (search needs)
     enum-told
-    enum-known-answer
+    (search needs)
     (search needs)
     put-numbers-requires
-    enum-known-answer-2
+    (search needs)
     (search needs)
     put-numbers-requires-2
     returns-2
-    same-length
+    (search needs)
     returns-3
-    same-length-2
+    (search needs)
     returns-4)

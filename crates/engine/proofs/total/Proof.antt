@@ -5,18 +5,6 @@ use Rattle.engine.proofs.Answers.{total-refused, total-given}
 use Rattle.engine.proofs.total.Statement.{statement}
 use Rattle.engine.proofs.total.Tie as tie
 
-net-space-requires : tie.Need-net-space-requires
-net-space-requires c κs = search needs
-
-lines-space-requires : tie.Need-lines-space-requires
-lines-space-requires c κs = search needs
-
-load-impacts-requires : tie.Need-load-impacts-requires
-load-impacts-requires c κs = search needs
-
-enum-known-number : tie.Need-enum-known-number
-enum-known-number c = search needs
-
 enum-told : tie.Need-enum-told
 enum-told c = search needs
 
@@ -26,9 +14,6 @@ total-of-requires c κs =
     let d = k .before .before in
     let e = k .enum-told .given .1 in
     (accepted-holds (d .before .before .before .before .before .before .args .file .now) (d .load-impacts .last .1 .0) (d .load-impacts .result) (d .load-impacts .ensures .0) e .read, d .load-impacts .ensures .1 e)
-
-number-requires : tie.Need-number-requires
-number-requires c κs = search needs
 
 figure-of-requires : tie.Need-figure-of-requires
 figure-of-requires c κs =
@@ -58,13 +43,13 @@ pub total-spec : {M : Type 1} → statement M
 total-spec =
     tie.close
     (tie.spec
-    net-space-requires
-    lines-space-requires
-    load-impacts-requires
-    enum-known-number
+    (search needs)
+    (search needs)
+    (search needs)
+    (search needs)
     enum-told
     total-of-requires
-    number-requires
+    (search needs)
     figure-of-requires
     returns
     returns-2)

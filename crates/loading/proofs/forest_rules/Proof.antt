@@ -1,23 +1,9 @@
 use mathlib.Core.Path.{sym, _∙_}
-use native.Mathlib.Omega.{arith}
 use Rattle.buffer.specs.Buffer.{networkIn}
 use Rattle.loading.proofs.Turns.{open-small, plain-small, unsupplied-small, says-4, says-5, says-6, says-7, says-8, says-accepted}
 use borrow.Author.Needs.{needs}
 use Rattle.loading.proofs.forest_rules.Statement.{statement}
 use Rattle.loading.proofs.forest_rules.Tie as tie
-use Rattle.loading.proofs.forest_rules.Reads as reads
-use Rattle.loading.proofs.forest_rules.Lts as lts
-use Rattle.loading.proofs.stations_space.Reads as stations-space-reads
-use Rattle.loading.proofs.line_record.Reads as line-record-reads
-use Rattle.loading.proofs.station_record.Reads as station-record-reads
-use Rattle.radial.proofs.hv_joined.Reads as hv-joined-reads
-use Rattle.radial.proofs.open_line.Reads as open-line-reads
-use Rattle.radial.proofs.path_returns.Reads as path-returns-reads
-use Rattle.radial.proofs.plain_at_hv.Reads as plain-at-hv-reads
-use Rattle.radial.proofs.unsupplied.Reads as unsupplied-reads
-
-open-line-requires : tie.Need-open-line-requires
-open-line-requires c κs = search needs
 
 line-record-requires : tie.Need-line-record-requires
 line-record-requires c κs =
@@ -29,9 +15,6 @@ returns c =
     let a2 = c .before .before in let net = a2 .before .args .net .now in let o = a2 .open-line .result in
     says-4 (networkIn net) o (a2 .open-line .ensures) (c .line-record .ensures) (c .before .if1 .taken)
 
-plain-at-hv-requires : tie.Need-plain-at-hv-requires
-plain-at-hv-requires c κs = search needs
-
 line-record-requires-2 : tie.Need-line-record-requires-2
 line-record-requires-2 c κs =
     let a3 = c .before in
@@ -42,12 +25,6 @@ returns-2 : tie.Need-returns-2
 returns-2 c =
     let a3 = c .before .before in let a2 = a3 .before .before in let net = a2 .before .args .net .now in let o = a2 .open-line .result in
     says-5 (networkIn net) o (a2 .open-line .ensures) (a3 .before .if1 .left) (a3 .plain-at-hv .result) (a3 .plain-at-hv .ensures) (c .line-record2 .ensures) (c .before .if2 .taken)
-
-stations-space-requires : tie.Need-stations-space-requires
-stations-space-requires c κs = search needs
-
-path-returns-requires : tie.Need-path-returns-requires
-path-returns-requires c κs = search needs
 
 returns-3 : tie.Need-returns-3
 returns-3 c =
@@ -88,14 +65,14 @@ pub forest-rules-spec : {M : Type 1} → statement M
 forest-rules-spec =
     tie.close
     (tie.spec
-    open-line-requires
+    (λ c κs. search needs)
     line-record-requires
     returns
-    plain-at-hv-requires
+    (λ c κs. search needs)
     line-record-requires-2
     returns-2
-    stations-space-requires
-    path-returns-requires
+    (search needs)
+    (λ c κs. search needs)
     returns-3
     hv-joined-requires
     returns-4

@@ -3,23 +3,10 @@ use Rattle.loading.proofs.Loads.{read-refused, read-holds, read-rules}
 use borrow.Author.Needs.{needs}
 use Rattle.loading.proofs.load.Statement.{statement}
 use Rattle.loading.proofs.load.Tie as tie
-use Rattle.loading.proofs.load.Reads as reads
-use Rattle.loading.proofs.load.Lts as lts
-use Rattle.loading.proofs.rules.Reads as rules-reads
-use Rattle.reader.proofs.read.Reads as read-reads
-
-read-requires : tie.Need-read-requires
-read-requires c κs = search needs
-
-enum-known-number : tie.Need-enum-known-number
-enum-known-number c = search needs
-
-enum-told : tie.Need-enum-told
-enum-told c = search needs
 
 rules-requires : tie.Need-rules-requires
 rules-requires c κs =
-    let k = c .before .before .before .before .before .before in
+    let k = c .before .before .before .before .before .before .before .before in
     let d = k .before .before in
     read-holds (d .before .before .before .args .file .now) (d .read .last .1 .0) (d .read .result) (d .read .ensures) (k .enum-told .given .1)
 
@@ -30,7 +17,7 @@ returns c =
 
 returns-2 : tie.Need-returns-2
 returns-2 c =
-    let k = c .before .before .before .before .before .before .before in
+    let k = c .before .before .before .before .before .before .before .before .before in
     let d = k .before .before in (
       read-rules (d .before .before .before .args .file .now) (d .read .last .1 .0) (d .read .result) (d .read .ensures) (k .enum-told .given .1) (c .rules .result) (c .rules .ensures .0),
       c .rules .ensures .1,
@@ -38,4 +25,4 @@ returns-2 c =
 
 pub load-spec : {M : Type 1} → statement M
 load-spec =
-    tie.close (tie.spec read-requires enum-known-number enum-told rules-requires returns returns-2)
+    tie.close (tie.spec (λ c κs. search needs) (search needs) (search needs) rules-requires returns returns-2)

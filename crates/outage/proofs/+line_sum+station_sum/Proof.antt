@@ -7,7 +7,8 @@ use Rattle.tree.specs.Linked.{codeEnd}
 use Rattle.outage.specs.Below.{Filled}
 use Rattle.outage.proofs.Paths.{station-levels, at-line}
 use Rattle.outage.proofs.Chains.{mostLeft, Part, part-start, part-sum, part-filled, part-code, part-less, part-skip, part-leaves, part-fits, part-more, station-size}
-use Rattle.outage.proofs.Calls.{read-fits, line-code, line-left, far-there, far-station, connected-sum, connected-filled, hanging-sum, hanging-filled}
+use Rattle.tree.proofs.Fitting.{read-fits}
+use Rattle.outage.proofs.Calls.{line-code, line-left, far-there, far-station, connected-sum, connected-filled, hanging-sum, hanging-filled}
 use Prim.Native.Nat.{ℕ, _+_, _-_, _/_, _<_}
 use borrow.Fn.Kinds.{In}
 use borrow.Fn.PlainCycle.{Measures, is, falls, and}

@@ -4,7 +4,7 @@ use mathlib.Core.Path.{_≡_, refl}
 use native.Mathlib.Omega.{arith}
 use lib.ListN.{length, length-set}
 use Rattle.buffer.specs.Buffer.{networkIn}
-use Rattle.outage.proofs.Calls.{read-fits}
+use Rattle.tree.proofs.Fitting.{read-fits}
 use Rattle.outage.proofs.Breakers.{trip-in, trip-impact, Upto, upto-more}
 use Rattle.outage.proofs.impacts_behind.Statement.{statement}
 use Rattle.outage.proofs.impacts_behind.Tie as tie

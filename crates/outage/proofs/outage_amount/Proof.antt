@@ -7,24 +7,6 @@ use borrow.Author.Needs.{needs}
 use Rattle.outage.proofs.outage_amount.Statement.{statement}
 use Rattle.outage.proofs.outage_amount.Tie as tie
 
-weight-requires : tie.Need-weight-requires
-weight-requires c κs = search needs
-
-new-requires : tie.Need-new-requires
-new-requires c κs = search needs
-
-sub-new : tie.Need-sub-new
-sub-new c = search needs
-
-mul-new : tie.Need-mul-new
-mul-new c = search needs
-
-element-copy-out-new : tie.Need-element-copy-out-new
-element-copy-out-new c = search needs
-
-new-requires-2 : tie.Need-new-requires-2
-new-requires-2 c κs = search needs
-
 times-requires : tie.Need-times-requires
 times-requires c κs =
     let s = c .before .before .before .before in
@@ -47,11 +29,11 @@ pub outage-amount-spec : {M : Type 1} → statement M
 outage-amount-spec =
     tie.close
     (tie.spec
-    weight-requires
-    new-requires
-    sub-new
-    mul-new
-    element-copy-out-new
-    new-requires-2
+    (search needs)
+    (search needs)
+    (search needs)
+    (search needs)
+    (search needs)
+    (search needs)
     times-requires
     returns)

@@ -8,8 +8,8 @@ use Rattle.buffer.specs.Buffer.{networkIn}
 use Rattle.tree.specs.Linked.{codeEnd}
 use Rattle.outage.specs.Below.{Filled}
 use Rattle.outage.proofs.Paths.{at-hv}
-use Rattle.outage.proofs.Chains.{closed-length}
-use Rattle.outage.proofs.Calls.{read-fits}
+use Rattle.tree.proofs.Lengths.{closed-length}
+use Rattle.tree.proofs.Fitting.{read-fits}
 use Rattle.outage.proofs.HVStations.{AtHV, hv-none, hv-skip, hv-more, hv-all}
 use Rattle.outage.proofs.sums_outwards.Statement.{statement}
 use Rattle.outage.proofs.sums_outwards.Tie as tie
@@ -20,9 +20,6 @@ Inv-loop net chains nexts sums₀ levels station₀ station-end sums station =
 
 abbrev μ-loop : tie.MeasureT-loop
 μ-loop net chains nexts sums₀ levels station₀ station-end sums station = station-end - station
-
-line-count-requires : tie.Need-line-count-requires Inv-loop μ-loop
-line-count-requires c κs = search needs
 
 mul-levels : tie.Need-mul-levels Inv-loop μ-loop
 mul-levels c =
@@ -37,9 +34,6 @@ add-levels c =
     let g = s .args in
     let N = networkIn (g .net .now) in
     omega (arith, read-fits N (s .pre .0 .read) .lines)
-
-station-count-requires : tie.Need-station-count-requires Inv-loop μ-loop
-station-count-requires c κs = search needs
 
 add-station-end : tie.Need-add-station-end Inv-loop μ-loop
 add-station-end c =
@@ -124,10 +118,10 @@ sums-outwards-spec =
     (tie.spec
     Inv-loop
     μ-loop
-    line-count-requires
+    (search needs)
     mul-levels
     add-levels
-    station-count-requires
+    (search needs)
     add-station-end
     loop-holds
     is-hv-requires

@@ -6,7 +6,7 @@ use lib.ListN.{length}
 use Rattle.model.specs.Outage.{total}
 use Rattle.theory.specs.Sizes.{total-size, read-sized}
 use Rattle.buffer.specs.Buffer.{networkIn}
-use Rattle.outage.proofs.Calls.{read-fits}
+use Rattle.tree.proofs.Fitting.{read-fits}
 use Rattle.outage.proofs.Totals.{amountsFrom, amounts-all, amounts-none, amounts-first}
 use Rattle.outage.proofs.total_of.Statement.{statement}
 use Rattle.outage.proofs.total_of.Tie as tie
@@ -17,9 +17,6 @@ Inv-loop net impacts total₀ line₀ line-end sum line =
 
 abbrev μ-loop : tie.MeasureT-loop
 μ-loop net impacts total₀ line₀ line-end total line = line-end - line
-
-line-count-requires : tie.Need-line-count-requires Inv-loop μ-loop
-line-count-requires c κs = search needs
 
 add-line-end : tie.Need-add-line-end Inv-loop μ-loop
 add-line-end c = let s = c .before in let N = networkIn (s .args .net .now) in omega (arith, read-fits N (s .pre .0) .lines)
@@ -64,7 +61,7 @@ total-of-spec =
     (tie.spec
     Inv-loop
     μ-loop
-    line-count-requires
+    (search needs)
     add-line-end
     loop-holds
     outage-amount-requires

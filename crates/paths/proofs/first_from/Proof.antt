@@ -6,12 +6,6 @@ use borrow.Author.Needs.{needs}
 use Rattle.paths.proofs.first_from.Statement.{statement}
 use Rattle.paths.proofs.first_from.Tie as tie
 
-mul-place : tie.Need-mul-place
-mul-place c = search needs
-
-element-copy-out-place : tie.Need-element-copy-out-place
-element-copy-out-place c = search needs
-
 returns : tie.Need-returns
 returns c =
     let g = c .before .before .args in
@@ -25,4 +19,4 @@ returns-2 c =
     ap (λ b. this b (g .beyond) x) (sym (ne-eqb x 0 (c .if1 .left)))
 
 pub first-from-spec : {M : Type 1} → statement M
-first-from-spec = tie.close (tie.spec mul-place element-copy-out-place returns returns-2)
+first-from-spec = tie.close (tie.spec (search needs) (search needs) returns returns-2)

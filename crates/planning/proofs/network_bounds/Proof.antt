@@ -3,12 +3,6 @@ use Rattle.planning.proofs.Searching.{savings-held, bounds-held}
 use Rattle.planning.proofs.network_bounds.Statement.{statement}
 use Rattle.planning.proofs.network_bounds.Tie as tie
 
-savings-of-requires : tie.Need-savings-of-requires
-savings-of-requires c κs = search needs
-
-place-count-requires : tie.Need-place-count-requires
-place-count-requires c κs = search needs
-
 fill-bounds-requires : tie.Need-fill-bounds-requires
 fill-bounds-requires c κs =
     let d = c .before .before .before .before .before in
@@ -25,4 +19,4 @@ returns c =
 
 pub network-bounds-spec : {M : Type 1} → statement M
 network-bounds-spec =
-    tie.close (tie.spec savings-of-requires place-count-requires fill-bounds-requires returns)
+    tie.close (tie.spec (λ c κs. search needs) (search needs) fill-bounds-requires returns)

@@ -9,10 +9,10 @@ use Rattle.prospects.proofs.enter.Statement.{statement}
 use Rattle.prospects.proofs.enter.Tie as tie
 
 abbrev Inv-loop : tie.InvT-loop
-Inv-loop net relations ends lists outlook₀ saved₀ set size last start row i₀ i-end outlook saved i = Written (networkIn net) lists (take size set) size last outlook₀ saved₀ i i-end outlook saved
+Inv-loop net relations ends lists outlook₀ rows₀ set size last start row i₀ i-end outlook rows i = Written (networkIn net) lists (take size set) size last outlook₀ rows₀ i i-end outlook rows
 
 abbrev μ-loop : tie.MeasureT-loop
-μ-loop net relations ends lists outlook₀ saved₀ set size last start row i₀ i-end outlook saved i = i-end - i
+μ-loop net relations ends lists outlook₀ rows₀ set size last start row i₀ i-end outlook rows i = i-end - i
 
 mul-row : tie.Need-mul-row Inv-loop μ-loop
 mul-row c = omega (arith, last-few (c .pre))
@@ -50,7 +50,7 @@ in-series-of-requires c κs = let t = c .before .before .before .before .before 
 keep-requires : tie.Need-keep-requires Inv-loop μ-loop
 keep-requires c κs =
     let t = c .before .before .before .before .before .before .before .before .before in
-    (t .before .loop .inv .savedLong, omega (arith, t .before .before .before .pre .few), place-few (t .before .before .before .pre) (t .before .loop .inv) (t .loop-test .taken))
+    (t .before .loop .inv .rowsLong, omega (arith, t .before .before .before .pre .few), place-few (t .before .before .before .pre) (t .before .loop .inv) (t .loop-test .taken))
 
 put-requires : tie.Need-put-requires Inv-loop μ-loop
 put-requires c κs =

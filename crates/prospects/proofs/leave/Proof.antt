@@ -11,13 +11,13 @@ use Rattle.prospects.proofs.leave.Statement.{statement}
 use Rattle.prospects.proofs.leave.Tie as tie
 
 abbrev Inv-loop : tie.InvT-loop
-Inv-loop lists outlook₀ saved size last start row i₀ i-end outlook i =
+Inv-loop lists outlook₀ rows size last start row i₀ i-end outlook i =
     (i-end ≡ many lists last + 1) × (1 ≤ i) × (i ≤ i-end) × (length outlook ≡ 195)
-    × ((old : List ℕ) → length old ≡ 195 → Changed lists last (size * 195) 1 (many lists last + 1) old outlook₀ saved
-    → Changed lists last (size * 195) i (many lists last + 1) old outlook saved)
+    × ((old : List ℕ) → length old ≡ 195 → Changed lists last (size * 195) 1 (many lists last + 1) old outlook₀ rows
+    → Changed lists last (size * 195) i (many lists last + 1) old outlook rows)
 
 abbrev μ-loop : tie.MeasureT-loop
-μ-loop lists outlook₀ saved size last start row i₀ i-end outlook i = i-end - i
+μ-loop lists outlook₀ rows size last start row i₀ i-end outlook i = i-end - i
 
 loop-holds : tie.Need-loop-holds Inv-loop μ-loop
 loop-holds c = (refl, omega arith, omega arith, c .before .pre .0, λ old l x. x)

@@ -2,7 +2,7 @@ use Prim.Native.Nat.{_+_, _-_}
 use mathlib.Core.Path.{_∙_}
 use borrow.Author.Needs.{needs}
 use Rattle.buffer.specs.Buffer.{networkIn}
-use Rattle.prospects.proofs.Saving.{Saved, saving-is, saved-none, next-later, saved-more, saved-all}
+use Rattle.prospects.proofs.Saving.{Saved, saving-is, rows-none, next-later, rows-more, rows-all}
 use Rattle.prospects.proofs.savings_of.Statement.{statement}
 use Rattle.prospects.proofs.savings_of.Tie as tie
 
@@ -13,7 +13,7 @@ abbrev μ-loop : tie.MeasureT-loop
 μ-loop net relations ends sums outlook savings₀ none i₀ i-end savings i = i-end - i
 
 loop-holds : tie.Need-loop-holds Inv-loop μ-loop
-loop-holds c = saved-none (networkIn (c .before .args .net .now)) (c .place-count .result) (c .before .args .savings .now) (c .before .pre .0 .accepted) (c .place-count .ensures) (c .before .pre .1 .1)
+loop-holds c = rows-none (networkIn (c .before .args .net .now)) (c .place-count .result) (c .before .args .savings .now) (c .before .pre .0 .accepted) (c .place-count .ensures) (c .before .pre .1 .1)
 
 fall-requires : tie.Need-fall-requires Inv-loop μ-loop
 fall-requires c κs =
@@ -25,10 +25,10 @@ fall-requires c κs =
 loop-again : tie.Need-loop-again Inv-loop μ-loop
 loop-again c =
     let N = networkIn (c .before .before .before .before .before .before .args .net .now) in
-    saved-more N (c .before .before .before .before .loop .inv) (c .number .result) (c .before .before .before .loop-test .taken) (c .number .ensures ∙ saving-is N (c .before .before .before .before .loop .i + 1) (c .before .fall .result .0) (c .before .fall .ensures))
+    rows-more N (c .before .before .before .before .loop .inv) (c .number .result) (c .before .before .before .loop-test .taken) (c .number .ensures ∙ saving-is N (c .before .before .before .before .loop .i + 1) (c .before .fall .result .0) (c .before .fall .ensures))
 
 returns : tie.Need-returns Inv-loop μ-loop
-returns c = saved-all (networkIn (c .before .before .before .args .net .now)) (c .before .loop .inv) (c .loop-test .left)
+returns c = rows-all (networkIn (c .before .before .before .args .net .now)) (c .before .loop .inv) (c .loop-test .left)
 
 pub savings-of-spec : {M : Type 1} → statement M
 savings-of-spec =

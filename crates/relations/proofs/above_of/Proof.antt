@@ -1,16 +1,11 @@
 use mathlib.Core.Path.{_∙_}
 use native.Mathlib.Omega.{arith}
 use Rattle.buffer.specs.Buffer.{networkIn}
-use Rattle.relations.proofs.Above.{place-line, place-end, above-far, above-hv, feeder-near, above-fed}
+use Rattle.tree.proofs.Fitting.{read-fits}
+use Rattle.relations.proofs.Above.{place-line, place-end, above-far, above-hv, feeder-in, above-fed}
 use borrow.Author.Needs.{needs}
 use Rattle.relations.proofs.above_of.Statement.{statement}
 use Rattle.relations.proofs.above_of.Tie as tie
-
-place-line-requires : tie.Need-place-line-requires
-place-line-requires c κs = search needs
-
-place-side-requires : tie.Need-place-side-requires
-place-side-requires c κs = search needs
 
 sub-if1 : tie.Need-sub-if1
 sub-if1 c =
@@ -77,115 +72,33 @@ returns-2 c =
     let i = place-line N (s .pre .0) (g .place) l (s .pre .4) (c .before .before .before .before .before .place-line .ensures) in
     above-hv N (s .pre .0) (g .sides .now) (g .feeders .now) (g .marks .now) (g .firsts .now) (s .pre .1) (s .pre .2) (s .pre .3) l t (i .0) (i .1) (c .before .before .if1 .left) (c .if2 .taken) ∙ place-end N (s .pre .0) (g .place) l t (c .before .before .before .before .before .place-line .ensures) (c .before .before .before .before .place-side .ensures)
 
-mul-code : tie.Need-mul-code
-mul-code c =
+first-beyond-requires : tie.Need-first-beyond-requires
+first-beyond-requires c κs =
     let s = c .before .before .before .before .before .before in
     let g = s .args in
     let N = networkIn (g .net .now) in
     let l = c .before .before .before .before .before .place-line .result in
     let t = c .before .before .before .before .place-side .result in
     let i = place-line N (s .pre .0) (g .place) l (s .pre .4) (c .before .before .before .before .before .place-line .ensures) in
-    omega (arith, i, feeder-near N (s .pre .0) (g .sides .now) (g .feeders .now) (g .marks .now) (g .firsts .now) (s .pre .1) (s .pre .2) (s .pre .3) l t (i .0) (i .1) (c .before .before .if1 .left) (c .if2 .left))
-
-add-code : tie.Need-add-code
-add-code c =
-    let s = c .before .before .before .before .before .before in
-    let g = s .args in
-    let N = networkIn (g .net .now) in
-    let l = c .before .before .before .before .before .place-line .result in
-    let t = c .before .before .before .before .place-side .result in
-    let i = place-line N (s .pre .0) (g .place) l (s .pre .4) (c .before .before .before .before .before .place-line .ensures) in
-    omega (arith, i, feeder-near N (s .pre .0) (g .sides .now) (g .feeders .now) (g .marks .now) (g .firsts .now) (s .pre .1) (s .pre .2) (s .pre .3) l t (i .0) (i .1) (c .before .before .if1 .left) (c .if2 .left))
-
-sub-code : tie.Need-sub-code
-sub-code c = search needs
-
-mul-code-2 : tie.Need-mul-code-2
-mul-code-2 c =
-    let s = c .before .before .before .before .before .before in
-    let g = s .args in
-    let N = networkIn (g .net .now) in
-    let l = c .before .before .before .before .before .place-line .result in
-    let t = c .before .before .before .before .place-side .result in
-    let i = place-line N (s .pre .0) (g .place) l (s .pre .4) (c .before .before .before .before .before .place-line .ensures) in
-    omega (arith, i, feeder-near N (s .pre .0) (g .sides .now) (g .feeders .now) (g .marks .now) (g .firsts .now) (s .pre .1) (s .pre .2) (s .pre .3) l t (i .0) (i .1) (c .before .before .if1 .left) (c .if2 .left))
-
-element-copy-out-code : tie.Need-element-copy-out-code
-element-copy-out-code c =
-    let s = c .before .before .before .before .before .before in
-    let g = s .args in
-    let N = networkIn (g .net .now) in
-    let l = c .before .before .before .before .before .place-line .result in
-    let t = c .before .before .before .before .place-side .result in
-    let i = place-line N (s .pre .0) (g .place) l (s .pre .4) (c .before .before .before .before .before .place-line .ensures) in
-    omega (arith, i, feeder-near N (s .pre .0) (g .sides .now) (g .feeders .now) (g .marks .now) (g .firsts .now) (s .pre .1) (s .pre .2) (s .pre .3) l t (i .0) (i .1) (c .before .before .if1 .left) (c .if2 .left))
-
-sub-code-2 : tie.Need-sub-code-2
-sub-code-2 c =
-    let s = c .before .before .before .before .before .before .before in
-    let g = s .args in
-    let N = networkIn (g .net .now) in
-    let l = c .before .before .before .before .before .before .place-line .result in
-    let t = c .before .before .before .before .before .place-side .result in
-    let i = place-line N (s .pre .0) (g .place) l (s .pre .4) (c .before .before .before .before .before .before .place-line .ensures) in
-    omega (arith, i, feeder-near N (s .pre .0) (g .sides .now) (g .feeders .now) (g .marks .now) (g .firsts .now) (s .pre .1) (s .pre .2) (s .pre .3) l t (i .0) (i .1) (c .before .before .before .if1 .left) (c .before .if2 .left))
-
-sub-first-from : tie.Need-sub-first-from
-sub-first-from c =
-    let s = c .before .before .before .before .before .before .before in
-    let g = s .args in
-    let N = networkIn (g .net .now) in
-    let l = c .before .before .before .before .before .before .place-line .result in
-    let t = c .before .before .before .before .before .place-side .result in
-    let i = place-line N (s .pre .0) (g .place) l (s .pre .4) (c .before .before .before .before .before .before .place-line .ensures) in
-    omega (arith, i, feeder-near N (s .pre .0) (g .sides .now) (g .feeders .now) (g .marks .now) (g .firsts .now) (s .pre .1) (s .pre .2) (s .pre .3) l t (i .0) (i .1) (c .before .before .before .if1 .left) (c .before .if2 .left))
-
-mul-first-from : tie.Need-mul-first-from
-mul-first-from c =
-    let s = c .before .before .before .before .before .before .before in
-    let g = s .args in
-    let N = networkIn (g .net .now) in
-    let l = c .before .before .before .before .before .before .place-line .result in
-    let t = c .before .before .before .before .before .place-side .result in
-    let i = place-line N (s .pre .0) (g .place) l (s .pre .4) (c .before .before .before .before .before .before .place-line .ensures) in
-    omega (arith, i, feeder-near N (s .pre .0) (g .sides .now) (g .feeders .now) (g .marks .now) (g .firsts .now) (s .pre .1) (s .pre .2) (s .pre .3) l t (i .0) (i .1) (c .before .before .before .if1 .left) (c .before .if2 .left))
-
-element-copy-out-first-from : tie.Need-element-copy-out-first-from
-element-copy-out-first-from c =
-    let s = c .before .before .before .before .before .before .before in
-    let g = s .args in
-    let N = networkIn (g .net .now) in
-    let l = c .before .before .before .before .before .before .place-line .result in
-    let t = c .before .before .before .before .before .place-side .result in
-    let i = place-line N (s .pre .0) (g .place) l (s .pre .4) (c .before .before .before .before .before .before .place-line .ensures) in
-    omega (arith, i, feeder-near N (s .pre .0) (g .sides .now) (g .feeders .now) (g .marks .now) (g .firsts .now) (s .pre .1) (s .pre .2) (s .pre .3) l t (i .0) (i .1) (c .before .before .before .if1 .left) (c .before .if2 .left))
-
-first-from-requires : tie.Need-first-from-requires
-first-from-requires c κs =
-    let s = c .before .before .before .before .before .before .before .before in
-    let g = s .args in
-    let N = networkIn (g .net .now) in
-    let l = c .before .before .before .before .before .before .before .place-line .result in
-    let t = c .before .before .before .before .before .before .place-side .result in
-    let i = place-line N (s .pre .0) (g .place) l (s .pre .4) (c .before .before .before .before .before .before .before .place-line .ensures) in
-    omega (arith, i, feeder-near N (s .pre .0) (g .sides .now) (g .feeders .now) (g .marks .now) (g .firsts .now) (s .pre .1) (s .pre .2) (s .pre .3) l t (i .0) (i .1) (c .before .before .before .before .if1 .left) (c .before .before .if2 .left))
+    let k = feeder-in N (s .pre .0) (g .sides .now) (g .feeders .now) (g .marks .now) (g .firsts .now) (s .pre .1) (s .pre .2) (s .pre .3) l t (i .0) (i .1) (c .before .before .if1 .left) (c .if2 .left) in
+    (s .pre .0 .read, s .pre .0 .rules, s .pre .1 .nears, record { fits = read-fits N (s .pre .0 .read); low = k .0; high = k .1 })
 
 returns-3 : tie.Need-returns-3
 returns-3 c =
-    let s = c .before .before .before .before .before .before .before .before .before in
+    let s = c .before .before .before .before .before .before .before in
     let g = s .args in
     let N = networkIn (g .net .now) in
-    let l = c .before .before .before .before .before .before .before .before .place-line .result in
-    let t = c .before .before .before .before .before .before .before .place-side .result in
-    let i = place-line N (s .pre .0) (g .place) l (s .pre .4) (c .before .before .before .before .before .before .before .before .place-line .ensures) in
-    above-fed N (s .pre .0) (g .sides .now) (g .feeders .now) (g .marks .now) (g .firsts .now) (s .pre .1) (s .pre .2) (s .pre .3) l t (i .0) (i .1) (c .before .before .before .before .before .if1 .left) (c .before .before .before .if2 .left) (c .first-from .result) (c .first-from .ensures) ∙ place-end N (s .pre .0) (g .place) l t (c .before .before .before .before .before .before .before .before .place-line .ensures) (c .before .before .before .before .before .before .before .place-side .ensures)
+    let l = c .before .before .before .before .before .before .place-line .result in
+    let t = c .before .before .before .before .before .place-side .result in
+    let i = place-line N (s .pre .0) (g .place) l (s .pre .4) (c .before .before .before .before .before .before .place-line .ensures) in
+    above-fed N (s .pre .0) (g .sides .now) (g .feeders .now) (g .marks .now) (g .firsts .now) (s .pre .1) (s .pre .2) (s .pre .3) l t (i .0) (i .1) (c .before .before .before .if1 .left) (c .before .if2 .left) (c .first-beyond .result) (c .first-beyond .ensures) ∙ place-end N (s .pre .0) (g .place) l t (c .before .before .before .before .before .before .place-line .ensures) (c .before .before .before .before .before .place-side .ensures)
 
 pub above-of-spec : {M : Type 1} → statement M
 above-of-spec =
     tie.close
     (tie.spec
-    place-line-requires
-    place-side-requires
+    (search needs)
+    (search needs)
     sub-if1
     mul-if1
     element-copy-out-if1
@@ -197,14 +110,5 @@ above-of-spec =
     mul-feeder
     element-copy-out-feeder
     returns-2
-    mul-code
-    add-code
-    sub-code
-    mul-code-2
-    element-copy-out-code
-    sub-code-2
-    sub-first-from
-    mul-first-from
-    element-copy-out-first-from
-    first-from-requires
+    first-beyond-requires
     returns-3)

@@ -16,44 +16,8 @@ Inv-loop relations count q lists₀ row found₀ p₀ p-end lists found p = (p-e
 abbrev μ-loop : tie.MeasureT-loop
 μ-loop relations count q lists₀ row found₀ p₀ p-end lists found p = p-end - p
 
-mul-row : tie.Need-mul-row Inv-loop μ-loop
-mul-row c = search needs
-
-add-p : tie.Need-add-p Inv-loop μ-loop
-add-p c = search needs
-
-add-p-end : tie.Need-add-p-end Inv-loop μ-loop
-add-p-end c = search needs
-
 loop-holds : tie.Need-loop-holds Inv-loop μ-loop
 loop-holds c = (refl, omega arith, omega arith, refl, c .pre .3, listed-none refl refl, λ k h. refl)
-
-add-if1 : tie.Need-add-if1 Inv-loop μ-loop
-add-if1 c = search needs
-
-mul-if1 : tie.Need-mul-if1 Inv-loop μ-loop
-mul-if1 c = search needs
-
-element-copy-out-if1 : tie.Need-element-copy-out-if1 Inv-loop μ-loop
-element-copy-out-if1 c = search needs
-
-add-found : tie.Need-add-found Inv-loop μ-loop
-add-found c = search needs
-
-add-lists : tie.Need-add-lists Inv-loop μ-loop
-add-lists c = search needs
-
-mul-lists : tie.Need-mul-lists Inv-loop μ-loop
-mul-lists c = search needs
-
-element-write-lists : tie.Need-element-write-lists Inv-loop μ-loop
-element-write-lists c = search needs
-
-add-p-2 : tie.Need-add-p-2 Inv-loop μ-loop
-add-p-2 c = search needs
-
-loop-less : tie.Need-loop-less Inv-loop μ-loop
-loop-less c = search needs
 
 loop-again : tie.Need-loop-again Inv-loop μ-loop
 loop-again c =
@@ -74,12 +38,6 @@ loop-again c =
     (λ w. rw (w .1, w .2) (i .0, omega arith, omega arith, i .3, i .4, listed-past (i .5) (i .1) (w .0 .left), i .6))
     (c .if1 .came)
 
-mul-lists-2 : tie.Need-mul-lists-2 Inv-loop μ-loop
-mul-lists-2 c = search needs
-
-element-write-lists-2 : tie.Need-element-write-lists-2 Inv-loop μ-loop
-element-write-lists-2 c = search needs
-
 returns : tie.Need-returns Inv-loop μ-loop
 returns c =
     let h = c .before .loop in
@@ -93,20 +51,20 @@ fill-list-spec =
     (tie.spec
     Inv-loop
     μ-loop
-    mul-row
-    add-p
-    add-p-end
+    (search needs)
+    (search needs)
+    (search needs)
     loop-holds
-    add-if1
-    mul-if1
-    element-copy-out-if1
-    add-found
-    add-lists
-    mul-lists
-    element-write-lists
-    add-p-2
-    loop-less
+    (search needs)
+    (search needs)
+    (search needs)
+    (search needs)
+    (search needs)
+    (search needs)
+    (search needs)
+    (search needs)
+    (search needs)
     loop-again
-    mul-lists-2
-    element-write-lists-2
+    (search needs)
+    (search needs)
     returns)

@@ -13,23 +13,8 @@ Inv-loop relations count lists₀ q₀ q-end lists q = (q-end ≡ count + 1) × 
 abbrev μ-loop : tie.MeasureT-loop
 μ-loop relations count lists₀ q₀ q-end lists q = q-end - q
 
-no-lists-requires : tie.Need-no-lists-requires Inv-loop μ-loop
-no-lists-requires c κs = search needs
-
-add-q-end : tie.Need-add-q-end Inv-loop μ-loop
-add-q-end c = search needs
-
 loop-holds : tie.Need-loop-holds Inv-loop μ-loop
 loop-holds c = (refl, omega arith, omega arith, c .no-lists .ensures, λ r a b. absurd (omega arith))
-
-fill-list-requires : tie.Need-fill-list-requires Inv-loop μ-loop
-fill-list-requires c κs = search needs
-
-add-q : tie.Need-add-q Inv-loop μ-loop
-add-q c = search needs
-
-loop-less : tie.Need-loop-less Inv-loop μ-loop
-loop-less c = search needs
 
 loop-again : tie.Need-loop-again Inv-loop μ-loop
 loop-again c =
@@ -46,11 +31,11 @@ fill-lists-spec =
     (tie.spec
     Inv-loop
     μ-loop
-    no-lists-requires
-    add-q-end
+    (search needs)
+    (search needs)
     loop-holds
-    fill-list-requires
-    add-q
-    loop-less
+    (search needs)
+    (search needs)
+    (search needs)
     loop-again
     returns)

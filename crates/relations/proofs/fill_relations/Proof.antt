@@ -18,15 +18,6 @@ Inv-loop net sides feeders marks firsts relations₀ place₀ place-end relation
 abbrev μ-loop : tie.MeasureT-loop
 μ-loop net sides feeders marks firsts relations₀ place₀ place-end relations place = place-end - place
 
-no-relations-requires : tie.Need-no-relations-requires Inv-loop μ-loop
-no-relations-requires c κs = search needs
-
-place-count-requires : tie.Need-place-count-requires Inv-loop μ-loop
-place-count-requires c κs = search needs
-
-add-place-end : tie.Need-add-place-end Inv-loop μ-loop
-add-place-end c = search needs
-
 loop-holds : tie.Need-loop-holds Inv-loop μ-loop
 loop-holds c =
     let s = c .before .before .before in
@@ -40,12 +31,6 @@ climb-requires : tie.Need-climb-requires Inv-loop μ-loop
 climb-requires c κs =
     let s = c .before .before .before .before .before .before in
     (s .pre .0, s .pre .1, s .pre .2, s .pre .3, (omega arith, omega arith), c .before .before .loop .inv .3)
-
-add-place : tie.Need-add-place Inv-loop μ-loop
-add-place c = search needs
-
-loop-less : tie.Need-loop-less Inv-loop μ-loop
-loop-less c = search needs
 
 loop-again : tie.Need-loop-again Inv-loop μ-loop
 loop-again c =
@@ -72,12 +57,12 @@ fill-relations-spec =
     (tie.spec
     Inv-loop
     μ-loop
-    no-relations-requires
-    place-count-requires
-    add-place-end
+    (search needs)
+    (search needs)
+    (search needs)
     loop-holds
     climb-requires
-    add-place
-    loop-less
+    (search needs)
+    (search needs)
     loop-again
     returns)

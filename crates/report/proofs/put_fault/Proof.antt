@@ -3,7 +3,7 @@ use native.Mathlib.Omega.{arith}
 use Rattle.theory.specs.Sizes.{read-sized}
 use Rattle.theory.specs.TextSizes.{lineF-length}
 use Rattle.buffer.specs.Buffer.{networkIn}
-use Rattle.outage.proofs.Calls.{read-fits}
+use Rattle.tree.proofs.Fitting.{read-fits}
 use Rattle.text.proofs.Listing.{same-text}
 use Rattle.report.proofs.Lines.{lineF-is}
 use borrow.Author.Needs.{needs}

@@ -40,12 +40,12 @@ extend-calls t = (next-place-reads.Asked, next-place-reads.Learnt, goes-on-reads
 
 -- the walk has come to a place, and the set may get it, where it may do better than the best
 abbrev extend-Inv-loop : extend-lts.InvT-loop
-extend-Inv-loop net relations ends lists sums bounds outlook₀ saved₀ set₀ best₀ current from left size found₀ pending₀ place₀ outlook saved set best found pending place =
-    Going (networkIn net) lists outlook₀ saved₀ set₀ current from left (foundIn (networkIn net) found₀ best₀) place found pending outlook saved set best
+extend-Inv-loop net relations ends lists sums bounds outlook₀ rows₀ set₀ best₀ current from left size found₀ pending₀ place₀ outlook rows set best found pending place =
+    Going (networkIn net) lists outlook₀ rows₀ set₀ current from left (foundIn (networkIn net) found₀ best₀) place found pending outlook rows set best
     × (Promising (networkIn net) (found .spent) (found .saved .0) (current .saved .0) place left → allowed (networkIn net) (take (current .size) set ++ (place ∷ [])) ≡ true)
 
 abbrev extend-μ-loop : extend-lts.MeasureT-loop
-extend-μ-loop net relations ends lists sums bounds outlook₀ saved₀ set₀ best₀ current from left size found₀ pending₀ place₀ outlook saved set best found pending place =
+extend-μ-loop net relations ends lists sums bounds outlook₀ rows₀ set₀ best₀ current from left size found₀ pending₀ place₀ outlook rows set best found pending place =
     length (networkIn net .places) + 1 - place
 
 extend-next-place-requires : (t : ℕ) → extend-lts.Need-next-place-requires (extend-calls t) (extend-at t) extend.Post extend-Inv-loop extend-μ-loop
@@ -108,7 +108,7 @@ extend-extend-requires t c κs =
 
 -- the set with the place is visited, and extended or not
 extend-on : (t : ℕ) (c : extend-lts.Joined2 (extend-calls t) (extend-at t) extend.Post extend-Inv-loop extend-μ-loop)
-    → Going (networkIn (c .before .before .before .before .before .before .before .before .before .before .before .before .before .before .args .net .now)) (c .before .before .before .before .before .before .before .before .before .before .before .before .before .before .args .lists .now) (c .before .before .before .before .before .before .before .before .before .before .before .before .before .before .args .outlook .now) (c .before .before .before .before .before .before .before .before .before .before .before .before .before .before .args .saved .now) (c .before .before .before .before .before .before .before .before .before .before .before .before .before .before .args .set .now) (c .before .before .before .before .before .before .before .before .before .before .before .before .before .before .args .current) (c .before .before .before .before .before .before .before .before .before .before .before .before .before .before .args .from) (c .before .before .before .before .before .before .before .before .before .before .before .before .before .before .args .left) (foundIn (networkIn (c .before .before .before .before .before .before .before .before .before .before .before .before .before .before .args .net .now)) (c .before .before .before .before .before .before .before .before .before .before .before .before .before .before .args .progress) (c .before .before .before .before .before .before .before .before .before .before .before .before .before .before .args .best .now)) (c .before .before .before .before .before .before .before .before .before .before .loop .place + 1) (c .if2 .found) (c .if2 .pending) (c .if2 .outlook) (c .if2 .saved) (c .if2 .set) (c .if2 .best)
+    → Going (networkIn (c .before .before .before .before .before .before .before .before .before .before .before .before .before .before .args .net .now)) (c .before .before .before .before .before .before .before .before .before .before .before .before .before .before .args .lists .now) (c .before .before .before .before .before .before .before .before .before .before .before .before .before .before .args .outlook .now) (c .before .before .before .before .before .before .before .before .before .before .before .before .before .before .args .rows .now) (c .before .before .before .before .before .before .before .before .before .before .before .before .before .before .args .set .now) (c .before .before .before .before .before .before .before .before .before .before .before .before .before .before .args .current) (c .before .before .before .before .before .before .before .before .before .before .before .before .before .before .args .from) (c .before .before .before .before .before .before .before .before .before .before .before .before .before .before .args .left) (foundIn (networkIn (c .before .before .before .before .before .before .before .before .before .before .before .before .before .before .args .net .now)) (c .before .before .before .before .before .before .before .before .before .before .before .before .before .before .args .progress) (c .before .before .before .before .before .before .before .before .before .before .before .before .before .before .args .best .now)) (c .before .before .before .before .before .before .before .before .before .before .loop .place + 1) (c .if2 .found) (c .if2 .pending) (c .if2 .outlook) (c .if2 .rows) (c .if2 .set) (c .if2 .best)
 extend-on t c =
     let x = c .before .before .before .before .before .before .before .before .before .before .before .before .before .before .pre .1 .0 in
     let g = c .before .before .before .before .before .before .before .before .before .before .loop .inv .0 in

@@ -14,9 +14,6 @@ use Rattle.search.proofs.goes_on.Tie as tie
 returns : tie.Need-returns
 returns c = (λ _. inl (c .if1 .taken), λ e. absurd (true≢false (sym e)))
 
-place-count-requires : tie.Need-place-count-requires
-place-count-requires c κs = search needs
-
 returns-2 : tie.Need-returns-2
 returns-2 c = (λ _. inr (inl (omega (arith, c .if2 .taken, c .before .place-count .ensures))), λ e. absurd (true≢false (sym e)))
 
@@ -54,7 +51,7 @@ goes-on-spec =
     tie.close
     (tie.spec
     returns
-    place-count-requires
+    (search needs)
     returns-2
     returns-3
     most-saved-requires

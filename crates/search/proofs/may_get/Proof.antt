@@ -8,20 +8,8 @@ use Rattle.search.proofs.may_get.Tie as tie
 in-series-of-requires : tie.Need-in-series-of-requires
 in-series-of-requires c κs = later (c .pre)
 
-series-requires : tie.Need-series-requires
-series-requires c κs = search needs
-
 returns : tie.Need-returns
 returns c = too-many (c .before .before .before .pre) (c .before .before .in-series-of .ensures) (omega (arith, c .before .series .ensures, c .if1 .taken))
-
-cost-with-requires : tie.Need-cost-with-requires
-cost-with-requires c κs = search needs
-
-hours-with-requires : tie.Need-hours-with-requires
-hours-with-requires c κs = search needs
-
-within-means-requires : tie.Need-within-means-requires
-within-means-requires c κs = search needs
 
 returns-2 : tie.Need-returns-2
 returns-2 c = c .within-means .ensures ∙ few-enough (c .before .before .before .before .before .before .pre) (c .before .before .before .before .before .in-series-of .ensures) (c .before .before .cost-with .ensures) (c .before .hours-with .ensures) (omega (arith, c .before .before .before .before .series .ensures, c .before .before .before .if1 .left))
@@ -31,9 +19,9 @@ may-get-spec =
     tie.close
     (tie.spec
     in-series-of-requires
-    series-requires
+    (search needs)
     returns
-    cost-with-requires
-    hours-with-requires
-    within-means-requires
+    (λ c κs. search needs)
+    (λ c κs. search needs)
+    (search needs)
     returns-2)

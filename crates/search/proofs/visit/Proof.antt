@@ -9,9 +9,6 @@ use borrow.Author.Needs.{needs}
 use Rattle.search.proofs.visit.Statement.{statement}
 use Rattle.search.proofs.visit.Tie as tie
 
-visits-requires : tie.Need-visits-requires
-visits-requires c κs = search needs
-
 returns : tie.Need-returns
 returns c =
     let d = c .before .before .before .before in
@@ -20,14 +17,8 @@ returns c =
     let k = d .pre .4 in
     (d .pre .1, record { saved = k .saved; count = k .count; visits = k .visits; limit = k .limit }, visit-spent n S (d .args .progress) (d .args .best .now) (c .if1 .taken ∙ c .before .before .visits .ensures))
 
-add-visits : tie.Need-add-visits
-add-visits c = search needs
-
 below-requires : tie.Need-below-requires
 below-requires c κs = tt
-
-copy-set-requires : tie.Need-copy-set-requires
-copy-set-requires c κs = search needs
 
 returns-2 : tie.Need-returns-2
 returns-2 c =
@@ -54,4 +45,4 @@ returns-3 c =
 pub visit-spec : {M : Type 1} → statement M
 visit-spec =
     tie.close
-    (tie.spec visits-requires returns add-visits below-requires copy-set-requires returns-2 returns-3)
+    (tie.spec (search needs) returns (search needs) below-requires (search needs) returns-2 returns-3)

@@ -12,9 +12,6 @@ visit-requires c κs =
     let d = c .before .before in
     (d .pre .setLong, d .pre .bestLong, omega arith, saved-none (d .pre), counted-none (d .pre))
 
-adds-requires : tie.Need-adds-requires
-adds-requires c κs = search needs
-
 extend-requires : tie.Need-extend-requires
 extend-requires c κs =
     let d = c .before .before .before .before .before .before .before .before in
@@ -28,4 +25,4 @@ returns c =
     (l .found ∙ search-is (d .pre) (c .before .adds .result) (sym (c .before .adds .ensures)) (foundIn (networkIn (d .args .net .now)) (v .result) (v .last .1 .1 .1 .1 .0)) (v .ensures .2), l .bestLong, l .counted .count)
 
 pub walk-spec : {M : Type 1} → statement M
-walk-spec = tie.close (tie.spec visit-requires adds-requires extend-requires returns)
+walk-spec = tie.close (tie.spec visit-requires (search needs) extend-requires returns)

@@ -6,7 +6,7 @@ use lib.ListN.{length, length-take, length-drop}
 use Rattle.model.specs.Paths.{lineNumbers}
 use Rattle.theory.specs.Sizes.{read-sized}
 use Rattle.buffer.specs.Buffer.{networkIn}
-use Rattle.outage.proofs.Calls.{read-fits}
+use Rattle.tree.proofs.Fitting.{read-fits}
 use Rattle.text.specs.Over.{over}
 use Rattle.text.proofs.Listing.{Listed, listed-at, listed-none, listed-more, listed-all, lines-length, line-is}
 use Rattle.segments.specs.Entries.{entriesOf}

@@ -4,7 +4,7 @@ use mathlib.Core.Path.{_≡_, subst}
 use native.Mathlib.Omega.{arith}
 use lib.ListN.{length, length-set}
 use Rattle.buffer.specs.Buffer.{networkIn}
-use Rattle.outage.proofs.Calls.{read-fits}
+use Rattle.tree.proofs.Fitting.{read-fits}
 use Rattle.outage.proofs.Breakers.{trip-is, trip-in}
 use Rattle.segments.proofs.Weights.{Noted, noted-more, noted-fits, noted-all}
 use Rattle.segments.proofs.weights_tripped.Statement.{statement}

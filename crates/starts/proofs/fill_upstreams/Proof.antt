@@ -4,7 +4,7 @@ use native.Mathlib.Omega.{arith}
 use lib.ListN.{length, length-set}
 use borrow.Author.Needs.{needs}
 use Rattle.buffer.specs.Buffer.{networkIn}
-use Rattle.outage.proofs.Calls.{read-fits}
+use Rattle.tree.proofs.Fitting.{read-fits}
 use Rattle.starts.proofs.FirstOutlook.{Filled, filled-more, upstreamCode, trip-upstream, place-line}
 use Rattle.starts.proofs.fill_upstreams.Statement.{statement}
 use Rattle.starts.proofs.fill_upstreams.Tie as tie
@@ -15,18 +15,6 @@ Inv-loop net trips outlook₀ p₀ p-end outlook p =
 
 abbrev μ-loop : tie.MeasureT-loop
 μ-loop net trips outlook₀ p₀ p-end outlook p = p-end - p
-
-place-count-requires : tie.Need-place-count-requires Inv-loop μ-loop
-place-count-requires c κs = search needs
-
-add-p-end : tie.Need-add-p-end Inv-loop μ-loop
-add-p-end c = search needs
-
-loop-holds : tie.Need-loop-holds Inv-loop μ-loop
-loop-holds c = search needs
-
-place-line-requires : tie.Need-place-line-requires Inv-loop μ-loop
-place-line-requires c κs = search needs
 
 sub-outlook : tie.Need-sub-outlook Inv-loop μ-loop
 sub-outlook c =
@@ -46,18 +34,6 @@ element-copy-out-outlook c =
     let N = networkIn (s .args .net .now) in
     omega (arith, place-line N (s .pre .0) (c .before .before .loop .p) (omega arith) (omega arith), read-fits N (s .pre .0 .read) .lines)
 
-mul-outlook-2 : tie.Need-mul-outlook-2 Inv-loop μ-loop
-mul-outlook-2 c = search needs
-
-slice-write-outlook : tie.Need-slice-write-outlook Inv-loop μ-loop
-slice-write-outlook c = search needs
-
-add-p : tie.Need-add-p Inv-loop μ-loop
-add-p c = search needs
-
-loop-less : tie.Need-loop-less Inv-loop μ-loop
-loop-less c = search needs
-
 loop-again : tie.Need-loop-again Inv-loop μ-loop
 loop-again c =
     let s = c .before .before .before .before .before .before in
@@ -65,9 +41,6 @@ loop-again c =
     let N = networkIn (s .args .net .now) in
     let e = trip-upstream N (s .pre .0) (s .args .trips .now) (s .pre .1) (h .p) (c .before .place-line .result) (omega arith) (omega arith) (c .before .place-line .ensures) in
     (h .inv .0, omega arith, omega arith, simp length-set (h .inv .3), filled-more (upstreamCode N) (λ q. q) (h .outlook) (h .p) _ (omega arith) (λ q e. e) e (h .inv .4))
-
-same-length : tie.Need-same-length Inv-loop μ-loop
-same-length c = search needs
 
 returns : tie.Need-returns Inv-loop μ-loop
 returns c = let h = c .before .loop in λ q i j. h .inv .4 q i (omega arith)
@@ -78,17 +51,17 @@ fill-upstreams-spec =
     (tie.spec
     Inv-loop
     μ-loop
-    place-count-requires
-    add-p-end
-    loop-holds
-    place-line-requires
+    (search needs)
+    (search needs)
+    (search needs)
+    (search needs)
     sub-outlook
     mul-outlook
     element-copy-out-outlook
-    mul-outlook-2
-    slice-write-outlook
-    add-p
-    loop-less
+    (search needs)
+    (search needs)
+    (search needs)
+    (search needs)
     loop-again
-    same-length
+    (search needs)
     returns)

@@ -15,44 +15,8 @@ Inv-loop net relations own in-series outlook₀ p₀ p-end outlook p =
 abbrev μ-loop : tie.MeasureT-loop
 μ-loop net relations own in-series outlook₀ p₀ p-end outlook p = p-end - p
 
-place-count-requires : tie.Need-place-count-requires Inv-loop μ-loop
-place-count-requires c κs = search needs
-
-add-p-end : tie.Need-add-p-end Inv-loop μ-loop
-add-p-end c = search needs
-
-loop-holds : tie.Need-loop-holds Inv-loop μ-loop
-loop-holds c = search needs
-
-start-weight-requires : tie.Need-start-weight-requires Inv-loop μ-loop
-start-weight-requires c κs = search needs
-
-add-outlook : tie.Need-add-outlook Inv-loop μ-loop
-add-outlook c = search needs
-
-mul-outlook : tie.Need-mul-outlook Inv-loop μ-loop
-mul-outlook c = search needs
-
-slice-write-outlook : tie.Need-slice-write-outlook Inv-loop μ-loop
-slice-write-outlook c = search needs
-
-start-in-series-requires : tie.Need-start-in-series-requires Inv-loop μ-loop
-start-in-series-requires c κs = search needs
-
-add-outlook-2 : tie.Need-add-outlook-2 Inv-loop μ-loop
-add-outlook-2 c = search needs
-
-mul-outlook-2 : tie.Need-mul-outlook-2 Inv-loop μ-loop
-mul-outlook-2 c = search needs
-
 slice-write-outlook-2 : tie.Need-slice-write-outlook-2 Inv-loop μ-loop
 slice-write-outlook-2 c = simp length-set (omega arith)
-
-add-p : tie.Need-add-p Inv-loop μ-loop
-add-p c = search needs
-
-loop-less : tie.Need-loop-less Inv-loop μ-loop
-loop-less c = search needs
 
 loop-again : tie.Need-loop-again Inv-loop μ-loop
 loop-again c =
@@ -66,9 +30,6 @@ loop-again c =
       valued-more N (s .pre .0 .read .placeCount) (h .outlook) (h .p) (c .before .start-weight .result) (c .start-in-series .result) (omega arith) (omega arith) (c .before .start-weight .ensures) (c .start-in-series .ensures) (h .inv .4),
     )
 
-same-length : tie.Need-same-length Inv-loop μ-loop
-same-length c = search needs
-
 returns : tie.Need-returns Inv-loop μ-loop
 returns c = let h = c .before .loop in valued-all (networkIn (c .before .before .before .before .args .net .now)) (h .outlook) (h .p) (omega arith) (h .inv .4)
 
@@ -78,19 +39,19 @@ fill-values-spec =
     (tie.spec
     Inv-loop
     μ-loop
-    place-count-requires
-    add-p-end
-    loop-holds
-    start-weight-requires
-    add-outlook
-    mul-outlook
-    slice-write-outlook
-    start-in-series-requires
-    add-outlook-2
-    mul-outlook-2
+    (search needs)
+    (search needs)
+    (λ c. search needs)
+    (λ c κs. search needs)
+    (search needs)
+    (search needs)
+    (search needs)
+    (λ c κs. search needs)
+    (search needs)
+    (search needs)
     slice-write-outlook-2
-    add-p
-    loop-less
+    (search needs)
+    (search needs)
     loop-again
-    same-length
+    (search needs)
     returns)

@@ -4,7 +4,7 @@ use native.Mathlib.Omega.{arith}
 use lib.ListN.{length, getD, length-set}
 use borrow.Author.Needs.{needs}
 use Rattle.buffer.specs.Buffer.{networkIn}
-use Rattle.outage.proofs.Calls.{read-fits}
+use Rattle.tree.proofs.Fitting.{read-fits}
 use Rattle.starts.proofs.Raising.{Raised, raised-none, raised-more, raised-all, first-few}
 use Rattle.starts.proofs.own_in_series.Statement.{statement}
 use Rattle.starts.proofs.own_in_series.Tie as tie
@@ -16,23 +16,8 @@ Inv-loop net sides marks firsts counts in-series₀ line₀ line-end in-series l
 abbrev μ-loop : tie.MeasureT-loop
 μ-loop net sides marks firsts counts in-series₀ line₀ line-end in-series line = line-end - line
 
-line-count-requires : tie.Need-line-count-requires Inv-loop μ-loop
-line-count-requires c κs = search needs
-
-add-line-end : tie.Need-add-line-end Inv-loop μ-loop
-add-line-end c = search needs
-
 loop-holds : tie.Need-loop-holds Inv-loop μ-loop
 loop-holds c = (omega arith, omega arith, omega arith, refl, raised-none _ _ 65)
-
-sub-first : tie.Need-sub-first Inv-loop μ-loop
-sub-first c = search needs
-
-mul-first : tie.Need-mul-first Inv-loop μ-loop
-mul-first c = search needs
-
-element-copy-out-first : tie.Need-element-copy-out-first Inv-loop μ-loop
-element-copy-out-first c = search needs
 
 mul-larger : tie.Need-mul-larger Inv-loop μ-loop
 mul-larger c =
@@ -43,18 +28,6 @@ array-read-larger : tie.Need-array-read-larger Inv-loop μ-loop
 array-read-larger c =
     let s = c .before .before .before .before in
     omega (arith, first-few (networkIn (s .args .net .now)) (s .pre .0) (s .args .firsts .now) (s .pre .3) (c .before .before .loop .line) (omega arith) (omega arith))
-
-sub-larger : tie.Need-sub-larger Inv-loop μ-loop
-sub-larger c = search needs
-
-mul-larger-2 : tie.Need-mul-larger-2 Inv-loop μ-loop
-mul-larger-2 c = search needs
-
-element-copy-out-larger : tie.Need-element-copy-out-larger Inv-loop μ-loop
-element-copy-out-larger c = search needs
-
-larger-requires : tie.Need-larger-requires Inv-loop μ-loop
-larger-requires c κs = search needs
 
 mul-in-series : tie.Need-mul-in-series Inv-loop μ-loop
 mul-in-series c =
@@ -69,29 +42,8 @@ array-write-in-series c =
 far-place-requires : tie.Need-far-place-requires Inv-loop μ-loop
 far-place-requires c κs = let s = c .before .before .before .before .before .before in (s .pre .0, s .pre .1, s .pre .2, s .pre .3, record { fits = read-fits (networkIn (s .args .net .now)) (s .pre .0 .read); low = omega arith; high = omega arith })
 
-mul-larger-3 : tie.Need-mul-larger-3 Inv-loop μ-loop
-mul-larger-3 c = search needs
-
-array-read-larger-2 : tie.Need-array-read-larger-2 Inv-loop μ-loop
-array-read-larger-2 c = search needs
-
-far-count-requires : tie.Need-far-count-requires Inv-loop μ-loop
-far-count-requires c κs = let s = c .before .before .before .before .before .before .before in (s .pre .0, s .pre .1, s .pre .4, record { fits = read-fits (networkIn (s .args .net .now)) (s .pre .0 .read); low = omega arith; high = omega arith })
-
-larger-requires-2 : tie.Need-larger-requires-2 Inv-loop μ-loop
-larger-requires-2 c κs = search needs
-
-mul-in-series-2 : tie.Need-mul-in-series-2 Inv-loop μ-loop
-mul-in-series-2 c = search needs
-
-array-write-in-series-2 : tie.Need-array-write-in-series-2 Inv-loop μ-loop
-array-write-in-series-2 c = search needs
-
-add-line : tie.Need-add-line Inv-loop μ-loop
-add-line c = search needs
-
-loop-less : tie.Need-loop-less Inv-loop μ-loop
-loop-less c = search needs
+count-beyond-requires : tie.Need-count-beyond-requires Inv-loop μ-loop
+count-beyond-requires c κs = let s = c .before .before .before .before .before .before .before in (s .pre .0 .read, s .pre .0 .rules, s .pre .1, s .pre .4, record { fits = read-fits (networkIn (s .args .net .now)) (s .pre .0 .read); low = omega arith; high = omega arith })
 
 loop-again : tie.Need-loop-again Inv-loop μ-loop
 loop-again c =
@@ -105,8 +57,8 @@ loop-again c =
       omega arith,
       omega arith,
       simp length-set (h .inv .3),
-      raised-more N _ (h .in-series) (h .line) (getD (g .firsts .now) (h .line - 1) 0) (c .before .before .far-place .result) (getD (g .counts .now) (h .line - 1) 0) (c .before .far-count .result) (c .before .before .before .larger .result) (c .larger2 .result)
-          (omega arith) (omega arith) (omega arith) (s .pre .3 (h .line) (omega arith) (omega arith)) (s .pre .4 (h .line) (omega arith) (omega arith)) (far .0) (c .before .far-count .ensures)
+      raised-more N _ (h .in-series) (h .line) (getD (g .firsts .now) (h .line - 1) 0) (c .before .before .far-place .result) (getD (g .counts .now) (h .line - 1) 0) (c .before .count-beyond .result) (c .before .before .before .larger .result) (c .larger2 .result)
+          (omega arith) (omega arith) (omega arith) (s .pre .3 (h .line) (omega arith) (omega arith)) (s .pre .4 (h .line) (omega arith) (omega arith)) (far .0) (c .before .count-beyond .ensures)
           (c .before .before .before .larger .ensures) (c .larger2 .ensures) (h .inv .4),
     )
 
@@ -122,28 +74,28 @@ own-in-series-spec =
     (tie.spec
     Inv-loop
     μ-loop
-    line-count-requires
-    add-line-end
+    (search needs)
+    (search needs)
     loop-holds
-    sub-first
-    mul-first
-    element-copy-out-first
+    (search needs)
+    (search needs)
+    (search needs)
     mul-larger
     array-read-larger
-    sub-larger
-    mul-larger-2
-    element-copy-out-larger
-    larger-requires
+    (search needs)
+    (search needs)
+    (search needs)
+    (search needs)
     mul-in-series
     array-write-in-series
     far-place-requires
-    mul-larger-3
-    array-read-larger-2
-    far-count-requires
-    larger-requires-2
-    mul-in-series-2
-    array-write-in-series-2
-    add-line
-    loop-less
+    count-beyond-requires
+    (search needs)
+    (search needs)
+    (search needs)
+    (search needs)
+    (search needs)
+    (search needs)
+    (search needs)
     loop-again
     returns)

@@ -4,81 +4,59 @@ use native.Mathlib.Omega.{arith}
 use lib.ListN.{length, getD, length-set}
 use borrow.Author.Needs.{needs}
 use Rattle.buffer.specs.Buffer.{networkIn}
+use Rattle.tree.proofs.Fitting.{read-fits}
 use Rattle.sets.specs.Sets.{load}
 use Rattle.theory.specs.Gathering.{Gathered, gathered-none, gathered-more}
-use Rattle.starts.proofs.Gathering.{stopOf, stop-few, gathered-fits, gathered-all}
+use Rattle.starts.specs.Own.{stopOf}
+use Rattle.starts.proofs.Gathering.{gathered-fits, gathered-all}
 use Rattle.starts.proofs.own_weights.Statement.{statement}
 use Rattle.starts.proofs.own_weights.Tie as tie
 
 abbrev Inv-loop : tie.InvT-loop
-Inv-loop net stops own₀ line₀ line-end own line = (line-end ≡ length (networkIn net .lines) + 1) × (1 ≤ line) × (line ≤ line-end) × (length own ≡ 65) × Gathered (stopOf (networkIn net)) (load (networkIn net)) line-end own line
+Inv-loop net trips firsts own₀ line₀ line-end own line = (line-end ≡ length (networkIn net .lines) + 1) × (1 ≤ line) × (line ≤ line-end) × (length own ≡ 65) × Gathered (stopOf (networkIn net)) (load (networkIn net)) line-end own line
 
 abbrev μ-loop : tie.MeasureT-loop
-μ-loop net stops own₀ line₀ line-end own line = line-end - line
-
-line-count-requires : tie.Need-line-count-requires Inv-loop μ-loop
-line-count-requires c κs = search needs
-
-add-line-end : tie.Need-add-line-end Inv-loop μ-loop
-add-line-end c = search needs
+μ-loop net trips firsts own₀ line₀ line-end own line = line-end - line
 
 loop-holds : tie.Need-loop-holds Inv-loop μ-loop
 loop-holds c = (omega arith, omega arith, omega arith, refl, gathered-none _ _ _ 65)
 
-sub-stop : tie.Need-sub-stop Inv-loop μ-loop
-sub-stop c = search needs
-
-mul-stop : tie.Need-mul-stop Inv-loop μ-loop
-mul-stop c = search needs
-
-element-copy-out-stop : tie.Need-element-copy-out-stop Inv-loop μ-loop
-element-copy-out-stop c = search needs
+stop-of-requires : tie.Need-stop-of-requires Inv-loop μ-loop
+stop-of-requires c κs =
+    let s = c .before .before .before in
+    (s .pre .0, s .pre .1, s .pre .2, record { fits = read-fits (networkIn (s .args .net .now)) (s .pre .0 .read); low = c .before .loop .inv .1; high = omega arith })
 
 mul-own : tie.Need-mul-own Inv-loop μ-loop
-mul-own c = let s = c .before .before .before .before in
-    omega (arith, stop-few (networkIn (s .args .net .now)) (s .pre .0) (s .args .stops .now) (s .pre .1) (c .before .before .loop .line) (omega arith) (omega arith))
+mul-own c = omega (arith, c .stop-of .ensures .1)
 
 array-read-own : tie.Need-array-read-own Inv-loop μ-loop
-array-read-own c = let s = c .before .before .before .before in
-    omega (arith, stop-few (networkIn (s .args .net .now)) (s .pre .0) (s .args .stops .now) (s .pre .1) (c .before .before .loop .line) (omega arith) (omega arith))
-
-weight-requires : tie.Need-weight-requires Inv-loop μ-loop
-weight-requires c κs = search needs
+array-read-own c = omega (arith, c .stop-of .ensures .1)
 
 add-own : tie.Need-add-own Inv-loop μ-loop
 add-own c =
     let s = c .before .before .before .before .before in
     let h = c .before .before .before .loop in
     let N = networkIn (s .args .net .now) in
-    let k = ap (λ p. getD (h .own) p 0) (s .pre .1 (h .line) (omega arith) (omega arith)) in
+    let k = ap (λ p. getD (h .own) p 0) (c .before .stop-of .ensures .0) in
     omega (arith, k, c .weight .ensures, gathered-fits N (s .pre .0) _ (h .inv .0) (h .own) (h .line) (omega arith) (h .inv .4))
 
 mul-own-2 : tie.Need-mul-own-2 Inv-loop μ-loop
-mul-own-2 c = let s = c .before .before .before .before .before in
-    omega (arith, stop-few (networkIn (s .args .net .now)) (s .pre .0) (s .args .stops .now) (s .pre .1) (c .before .before .before .loop .line) (omega arith) (omega arith))
+mul-own-2 c = omega (arith, c .before .stop-of .ensures .1)
 
 array-write-own : tie.Need-array-write-own Inv-loop μ-loop
-array-write-own c = let s = c .before .before .before .before .before in
-    omega (arith, stop-few (networkIn (s .args .net .now)) (s .pre .0) (s .args .stops .now) (s .pre .1) (c .before .before .before .loop .line) (omega arith) (omega arith))
-
-add-line : tie.Need-add-line Inv-loop μ-loop
-add-line c = search needs
-
-loop-less : tie.Need-loop-less Inv-loop μ-loop
-loop-less c = search needs
+array-write-own c = omega (arith, c .before .stop-of .ensures .1)
 
 loop-again : tie.Need-loop-again Inv-loop μ-loop
 loop-again c =
     let s = c .before .before .before .before .before in
     let h = c .before .before .before .loop in
     let N = networkIn (s .args .net .now) in
-    let k = s .pre .1 (h .line) (omega arith) (omega arith) in
-    let few = stop-few N (s .pre .0) (s .args .stops .now) (s .pre .1) (h .line) (omega arith) (omega arith) in (
+    let k = c .before .stop-of in (
       h .inv .0,
       omega arith,
       omega arith,
       length-set (h .own) _ _ ∙ h .inv .3,
-      gathered-more (stopOf N) (load N) _ (h .own) (h .line) _ _ k (ap (λ w. getD (h .own) (getD (s .args .stops .now) (h .line - 1) 0) 0 + w) (c .weight .ensures)) (omega arith) (omega arith) (h .inv .4),
+      gathered-more (stopOf N) (load N) _ (h .own) (h .line) _ _ (k .ensures .0) (ap (λ w. getD (h .own) (k .result) 0 + w) (c .weight .ensures)) (omega (arith, k .ensures .1)) (omega arith) (h .inv .4),
     )
 
 returns : tie.Need-returns Inv-loop μ-loop
@@ -93,19 +71,17 @@ own-weights-spec =
     (tie.spec
     Inv-loop
     μ-loop
-    line-count-requires
-    add-line-end
+    (search needs)
+    (search needs)
     loop-holds
-    sub-stop
-    mul-stop
-    element-copy-out-stop
+    stop-of-requires
     mul-own
     array-read-own
-    weight-requires
+    (search needs)
     add-own
     mul-own-2
     array-write-own
-    add-line
-    loop-less
+    (search needs)
+    (search needs)
     loop-again
     returns)

@@ -24,12 +24,6 @@ Inv-loop net relations own p in-series₀ s₀ s-end in-series s =
 abbrev μ-loop : tie.MeasureT-loop
 μ-loop net relations own p in-series₀ s₀ s-end in-series s = s-end - s
 
-place-count-requires : tie.Need-place-count-requires Inv-loop μ-loop
-place-count-requires c κs = search needs
-
-add-s-end : tie.Need-add-s-end Inv-loop μ-loop
-add-s-end c = search needs
-
 loop-holds : tie.Need-loop-holds Inv-loop μ-loop
 loop-holds c =
     let s = c .before in
@@ -37,24 +31,6 @@ loop-holds c =
     let N = networkIn (g .net .now) in
     let all = in-series-all N (s .pre .0) (g .relations .now) (g .own .now) (s .pre .1) (s .pre .2) (g .p) (s .pre .3 .low) (s .pre .3 .high) in
     (omega arith, omega arith, omega arith, omega (arith, all, ap (mostFrom (behindIn (g .relations .now) (g .p)) (λ k. getD (g .own .now) k 0) 1) {x = c .place-count .result + 1} {y = length (N .places) + 1} (omega arith)))
-
-behind-requires : tie.Need-behind-requires Inv-loop μ-loop
-behind-requires c κs = search needs
-
-mul-larger : tie.Need-mul-larger Inv-loop μ-loop
-mul-larger c = search needs
-
-element-copy-out-larger : tie.Need-element-copy-out-larger Inv-loop μ-loop
-element-copy-out-larger c = search needs
-
-larger-requires : tie.Need-larger-requires Inv-loop μ-loop
-larger-requires c κs = search needs
-
-add-s : tie.Need-add-s Inv-loop μ-loop
-add-s c = search needs
-
-loop-less : tie.Need-loop-less Inv-loop μ-loop
-loop-less c = search needs
 
 loop-again : tie.Need-loop-again Inv-loop μ-loop
 loop-again c =
@@ -79,14 +55,14 @@ start-in-series-spec =
     (tie.spec
     Inv-loop
     μ-loop
-    place-count-requires
-    add-s-end
+    (search needs)
+    (search needs)
     loop-holds
-    behind-requires
-    mul-larger
-    element-copy-out-larger
-    larger-requires
-    add-s
-    loop-less
+    (search needs)
+    (search needs)
+    (search needs)
+    (search needs)
+    (search needs)
+    (search needs)
     loop-again
     returns)

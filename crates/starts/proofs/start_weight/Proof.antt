@@ -23,12 +23,6 @@ Inv-loop net relations own upstreams p weight₀ s₀ s-end weight s =
 abbrev μ-loop : tie.MeasureT-loop
 μ-loop net relations own upstreams p weight₀ s₀ s-end weight s = s-end - s
 
-place-count-requires : tie.Need-place-count-requires Inv-loop μ-loop
-place-count-requires c κs = search needs
-
-add-s-end : tie.Need-add-s-end Inv-loop μ-loop
-add-s-end c = search needs
-
 loop-holds : tie.Need-loop-holds Inv-loop μ-loop
 loop-holds c =
     let s = c .before .before in
@@ -37,15 +31,6 @@ loop-holds c =
     let add = share (g .relations .now) (g .own .now) (g .upstreams .now) (g .p) in
     let all = weighed-all N (s .pre .0) (g .relations .now) (g .own .now) (g .upstreams .now) (s .pre .1) (s .pre .2) (s .pre .3) (g .p) (s .pre .5 .low) (s .pre .5 .high) in
     (omega arith, omega arith, omega arith, omega (arith, all, ap (sumFrom add 1) {x = c .place-count .result + 1} {y = length (N .places) + 1} (omega arith)))
-
-under-requires : tie.Need-under-requires Inv-loop μ-loop
-under-requires c κs = search needs
-
-mul-weight : tie.Need-mul-weight Inv-loop μ-loop
-mul-weight c = search needs
-
-element-copy-out-weight : tie.Need-element-copy-out-weight Inv-loop μ-loop
-element-copy-out-weight c = search needs
 
 add-weight : tie.Need-add-weight Inv-loop μ-loop
 add-weight c =
@@ -60,12 +45,6 @@ add-weight c =
       sum-first (share (g .relations .now) (g .own .now) (g .upstreams .now) (g .p)) (h .s) (c .before .before .before .before .before .place-count .result + 1) (omega arith),
       weight-few N (s .pre .0) (endAt N (g .p)),
     )
-
-add-s : tie.Need-add-s Inv-loop μ-loop
-add-s c = search needs
-
-loop-less : tie.Need-loop-less Inv-loop μ-loop
-loop-less c = search needs
 
 loop-again : tie.Need-loop-again Inv-loop μ-loop
 loop-again c =
@@ -92,14 +71,14 @@ start-weight-spec =
     (tie.spec
     Inv-loop
     μ-loop
-    place-count-requires
-    add-s-end
+    (search needs)
+    (search needs)
     loop-holds
-    under-requires
-    mul-weight
-    element-copy-out-weight
+    (search needs)
+    (search needs)
+    (search needs)
     add-weight
-    add-s
-    loop-less
+    (search needs)
+    (search needs)
     loop-again
     returns)

@@ -13,51 +13,9 @@ abbrev μ-loop : tie.MeasureT-loop
 loop-holds : tie.Need-loop-holds Inv-loop μ-loop
 loop-holds c = following-start _ _ _ _ _ _ _ _ (c .pre)
 
-add-line : tie.Need-add-line Inv-loop μ-loop
-add-line c = search needs
-
-add-sides : tie.Need-add-sides Inv-loop μ-loop
-add-sides c = search needs
-
-add-sides-2 : tie.Need-add-sides-2 Inv-loop μ-loop
-add-sides-2 c = search needs
-
-sub-sides : tie.Need-sub-sides Inv-loop μ-loop
-sub-sides c = search needs
-
-mul-sides : tie.Need-mul-sides Inv-loop μ-loop
-mul-sides c = search needs
-
-element-write-sides : tie.Need-element-write-sides Inv-loop μ-loop
-element-write-sides c = search needs
-
-sub-feeders : tie.Need-sub-feeders Inv-loop μ-loop
-sub-feeders c = search needs
-
-mul-feeders : tie.Need-mul-feeders Inv-loop μ-loop
-mul-feeders c = search needs
-
-element-write-feeders : tie.Need-element-write-feeders Inv-loop μ-loop
-element-write-feeders c = search needs
-
-mul-order : tie.Need-mul-order Inv-loop μ-loop
-mul-order c = search needs
-
 element-write-order : tie.Need-element-write-order Inv-loop μ-loop
 element-write-order c = let h = c .before .before .loop in
     following-add _ _ _ _ _ _ _ _ (h .sides) (h .feeders) (h .order) (h .n) (h .code) (c .before .loop-test .taken) (h .inv) (c .if1 .taken) .0
-
-add-n : tie.Need-add-n Inv-loop μ-loop
-add-n c = search needs
-
-sub-code : tie.Need-sub-code Inv-loop μ-loop
-sub-code c = search needs
-
-mul-code : tie.Need-mul-code Inv-loop μ-loop
-mul-code c = search needs
-
-element-copy-out-code : tie.Need-element-copy-out-code Inv-loop μ-loop
-element-copy-out-code c = search needs
 
 loop-less : tie.Need-loop-less Inv-loop μ-loop
 loop-less c = let h = c .before .before .before .loop in
@@ -82,21 +40,21 @@ append-spec =
     Inv-loop
     μ-loop
     loop-holds
-    add-line
-    add-sides
-    add-sides-2
-    sub-sides
-    mul-sides
-    element-write-sides
-    sub-feeders
-    mul-feeders
-    element-write-feeders
-    mul-order
+    (search needs)
+    (search needs)
+    (search needs)
+    (search needs)
+    (search needs)
+    (search needs)
+    (search needs)
+    (search needs)
+    (search needs)
+    (search needs)
     element-write-order
-    add-n
-    sub-code
-    mul-code
-    element-copy-out-code
+    (search needs)
+    (search needs)
+    (search needs)
+    (search needs)
     loop-less
     loop-again
     returns)

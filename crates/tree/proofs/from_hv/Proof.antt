@@ -16,40 +16,16 @@ Inv-loop net chains nexts near₀ feed₀ order₀ n₀ s₀ s-end sides feeders
 abbrev μ-loop : tie.MeasureT-loop
 μ-loop net chains nexts near₀ feed₀ order₀ n₀ s₀ s-end sides feeders order n s = s-end - s
 
-blank-requires : tie.Need-blank-requires Inv-loop μ-loop
-blank-requires c κs = search needs
-
-station-count-requires : tie.Need-station-count-requires Inv-loop μ-loop
-station-count-requires c κs = search needs
-
 loop-holds : tie.Need-loop-holds Inv-loop μ-loop
 loop-holds c = let a = c .before .before .before .before .before in
     let b = c .before .blank in
     (c .station-count .ensures, omega arith, queue-start (networkIn (a .args .net .now)) (a .pre .0) (a .pre .1) (b .last .0) (b .last .1 .0) (b .last .1 .1 .0) (b .ensures .0) (b .ensures .1) (b .ensures .2))
-
-add-is-hv : tie.Need-add-is-hv Inv-loop μ-loop
-add-is-hv c = search needs
-
-is-hv-requires : tie.Need-is-hv-requires Inv-loop μ-loop
-is-hv-requires c κs = search needs
-
-mul-append : tie.Need-mul-append Inv-loop μ-loop
-mul-append c = search needs
-
-element-copy-out-append : tie.Need-element-copy-out-append Inv-loop μ-loop
-element-copy-out-append c = search needs
 
 append-requires : tie.Need-append-requires Inv-loop μ-loop
 append-requires c κs = let p = c .before .before .before .before in
     let h = p .before .before .before .loop in
     let a = p .before .before .before .before .before .before .before .before .before in
     hv-room (networkIn (a .args .net .now)) (a .pre .0) (a .pre .1) (h .s) (h .sides) (h .feeders) (h .order) (h .n) (h .inv .2) (sym (p .before .is-hv .ensures) ∙ p .if1 .taken) (a .args .chains .now) (a .args .nexts .now) (a .pre .2)
-
-add-s : tie.Need-add-s Inv-loop μ-loop
-add-s c = search needs
-
-loop-less : tie.Need-loop-less Inv-loop μ-loop
-loop-less c = search needs
 
 loop-again : tie.Need-loop-again Inv-loop μ-loop
 loop-again c = ⊎-elim
@@ -80,15 +56,15 @@ from-hv-spec =
     (tie.spec
     Inv-loop
     μ-loop
-    blank-requires
-    station-count-requires
+    (search needs)
+    (search needs)
     loop-holds
-    add-is-hv
-    is-hv-requires
-    mul-append
-    element-copy-out-append
+    (search needs)
+    (search needs)
+    (search needs)
+    (search needs)
     append-requires
-    add-s
-    loop-less
+    (search needs)
+    (search needs)
     loop-again
     returns)

@@ -6,12 +6,6 @@ use Rattle.tree.proofs.Queueing.{line-bounds, far-there, far-skip, far-
 use Rattle.tree.proofs.from_line.Statement.{statement}
 use Rattle.tree.proofs.from_line.Tie as tie
 
-mul-line : tie.Need-mul-line
-mul-line c = search needs
-
-element-copy-out-line : tie.Need-element-copy-out-line
-element-copy-out-line c = search needs
-
 mul-code : tie.Need-mul-code
 mul-code c = let a = c .before in omega (arith, line-bounds _ (a .pre .0 .0) (a .pre .0 .1) _ _ _ _ _ (a .pre .1 .0) (a .pre .1 .1))
 
@@ -40,15 +34,6 @@ returns c = let a = c .before .before .before .before in
 station-of-requires : tie.Need-station-of-requires
 station-of-requires c κs = let a = c .before .before .before .before in far-there _ (a .pre .0 .0) (a .pre .0 .1) _ _ _ _ _ (a .pre .1 .0) (a .pre .1 .1)
 
-sub-append : tie.Need-sub-append
-sub-append c = search needs
-
-mul-append : tie.Need-mul-append
-mul-append c = search needs
-
-element-copy-out-append : tie.Need-element-copy-out-append
-element-copy-out-append c = search needs
-
 append-requires : tie.Need-append-requires
 append-requires c κs = let s = c .before .before .before .before in
     let a = s .before .before .before .before .before in
@@ -64,8 +49,8 @@ pub from-line-spec : {M : Type 1} → statement M
 from-line-spec =
     tie.close
     (tie.spec
-    mul-line
-    element-copy-out-line
+    (search needs)
+    (search needs)
     mul-code
     add-code
     sub-code
@@ -75,8 +60,8 @@ from-line-spec =
     is-closed-requires
     returns
     station-of-requires
-    sub-append
-    mul-append
-    element-copy-out-append
+    (search needs)
+    (search needs)
+    (search needs)
     append-requires
     returns-2)

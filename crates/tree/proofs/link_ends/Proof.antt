@@ -16,58 +16,10 @@ Inv-loop net chains₀ nexts₀ code₀ chains nexts code = (code ≤ 2 * length
 abbrev μ-loop : tie.MeasureT-loop
 μ-loop net chains₀ nexts₀ code₀ chains nexts code = code
 
-clear-requires : tie.Need-clear-requires Inv-loop μ-loop
-clear-requires c κs = search needs
-
-line-count-requires : tie.Need-line-count-requires Inv-loop μ-loop
-line-count-requires c κs = search needs
-
-mul-code : tie.Need-mul-code Inv-loop μ-loop
-mul-code c = search needs
-
 loop-holds : tie.Need-loop-holds Inv-loop μ-loop
 loop-holds c = let n = networkIn (c .before .before .before .before .args .net .now) in
     let k = c .before .clear in
     (omega arith, subst (λ m. LinkedAbove n (2 * m) (k .last .0) (k .last .1 .0)) (sym (c .line-count .ensures)) (linked-start n (k .last .0) (k .last .1 .0) (k .ensures .0)), k .ensures .1, k .ensures .2)
-
-is-closed-requires : tie.Need-is-closed-requires Inv-loop μ-loop
-is-closed-requires c κs = search needs
-
-station-of-requires : tie.Need-station-of-requires Inv-loop μ-loop
-station-of-requires c κs = search needs
-
-sub-nexts : tie.Need-sub-nexts Inv-loop μ-loop
-sub-nexts c = search needs
-
-mul-nexts : tie.Need-mul-nexts Inv-loop μ-loop
-mul-nexts c = search needs
-
-element-copy-out-nexts : tie.Need-element-copy-out-nexts Inv-loop μ-loop
-element-copy-out-nexts c = search needs
-
-sub-nexts-2 : tie.Need-sub-nexts-2 Inv-loop μ-loop
-sub-nexts-2 c = search needs
-
-mul-nexts-2 : tie.Need-mul-nexts-2 Inv-loop μ-loop
-mul-nexts-2 c = search needs
-
-element-write-nexts : tie.Need-element-write-nexts Inv-loop μ-loop
-element-write-nexts c = search needs
-
-sub-chains : tie.Need-sub-chains Inv-loop μ-loop
-sub-chains c = search needs
-
-mul-chains : tie.Need-mul-chains Inv-loop μ-loop
-mul-chains c = search needs
-
-element-write-chains : tie.Need-element-write-chains Inv-loop μ-loop
-element-write-chains c = search needs
-
-sub-code : tie.Need-sub-code Inv-loop μ-loop
-sub-code c = search needs
-
-loop-less : tie.Need-loop-less Inv-loop μ-loop
-loop-less c = search needs
 
 loop-again : tie.Need-loop-again Inv-loop μ-loop
 loop-again c = let h = c .before .before .before .loop in
@@ -94,22 +46,22 @@ link-ends-spec =
     (tie.spec
     Inv-loop
     μ-loop
-    clear-requires
-    line-count-requires
-    mul-code
+    (search needs)
+    (search needs)
+    (search needs)
     loop-holds
-    is-closed-requires
-    station-of-requires
-    sub-nexts
-    mul-nexts
-    element-copy-out-nexts
-    sub-nexts-2
-    mul-nexts-2
-    element-write-nexts
-    sub-chains
-    mul-chains
-    element-write-chains
-    sub-code
-    loop-less
+    (λ c κs. search needs)
+    (λ c κs. search needs)
+    (search needs)
+    (search needs)
+    (search needs)
+    (search needs)
+    (search needs)
+    (search needs)
+    (search needs)
+    (search needs)
+    (search needs)
+    (search needs)
+    (search needs)
     loop-again
     returns)

@@ -14,9 +14,6 @@ Inv-loop net chains nexts near₀ feed₀ order₀ n₀ i₀ sides feeders order
 abbrev μ-loop : tie.MeasureT-loop
 μ-loop net chains nexts near₀ feed₀ order₀ n₀ i₀ sides feeders order n i = 768 - i
 
-from-hv-requires : tie.Need-from-hv-requires Inv-loop μ-loop
-from-hv-requires c κs = search needs
-
 loop-holds : tie.Need-loop-holds Inv-loop μ-loop
 loop-holds c = (omega arith, c .from-hv .ensures)
 
@@ -24,12 +21,6 @@ from-line-requires : tie.Need-from-line-requires Inv-loop μ-loop
 from-line-requires c κs = let h = c .before .before .before .before .loop in
     let a = c .before .before .before .before .before .before .before .before .before in
     (a .pre, (h .inv .1, c .before .before .before .loop-test .taken))
-
-add-i : tie.Need-add-i Inv-loop μ-loop
-add-i c = search needs
-
-loop-less : tie.Need-loop-less Inv-loop μ-loop
-loop-less c = search needs
 
 loop-again : tie.Need-loop-again Inv-loop μ-loop
 loop-again c = (omega arith, c .from-line .ensures .0)
@@ -45,10 +36,10 @@ outwards-spec =
     (tie.spec
     Inv-loop
     μ-loop
-    from-hv-requires
+    (λ c κs. search needs)
     loop-holds
     from-line-requires
-    add-i
-    loop-less
+    (search needs)
+    (search needs)
     loop-again
     returns)

@@ -6,19 +6,10 @@ use Rattle.tree.specs.Linked.{codeEnd}
 use Rattle.tree.proofs.station_of.Statement.{statement}
 use Rattle.tree.proofs.station_of.Tie as tie
 
-add-end-station : tie.Need-add-end-station
-add-end-station c = search needs
-
-sub-end-station : tie.Need-sub-end-station
-sub-end-station c = search needs
-
-end-station-requires : tie.Need-end-station-requires
-end-station-requires c κs = search needs
-
 returns : tie.Need-returns
 returns c = let a = c .before .args in
     let i = station-in (networkIn (a .net .now)) (c .before .pre .read) (codeEnd (a .code)) (omega (arith, c .before .pre .low)) (omega (arith, c .before .pre .high)) in
     (c .end-station .ensures, omega (arith, i .0, c .end-station .ensures), omega (arith, i .1, c .end-station .ensures))
 
 pub station-of-spec : {M : Type 1} → statement M
-station-of-spec = tie.close (tie.spec add-end-station sub-end-station end-station-requires returns)
+station-of-spec = tie.close (tie.spec (search needs) (search needs) (search needs) returns)
