@@ -1,11 +1,11 @@
 // Steps of the calls that are the same for every file: whether what is lent is too short, whether a number is a line's, the answer to
-// what a search found, and numbers written at the start of what is lent.
+// what a search found, a refusal as one number.
 ghost use mathlib.Core.Path.{_≡_};
 ghost use mathlib.Core.Bool.{true, false};
 ghost use mathlib.Core.Logic.{_⊎_};
-ghost use mathlib.Core.List.{List, _++_};
+ghost use mathlib.Core.List.{List};
 ghost use Prim.Native.Nat.{ℕ, _+_, _*_, _≤_, _<_};
-ghost use lib.ListN.{length, take, drop};
+ghost use lib.ListN.{length};
 ghost use Rattle.model.specs.Answer.{given};
 ghost use Rattle.buffer.specs.Buffer.{networkIn};
 ghost use Rattle.answers.specs.Found.{found, foundBy, AtMost16};
@@ -18,16 +18,6 @@ pub fn is_line(net: &buffer::Net, line: u64) -> bool
         × (r ≡ false → (line < 1) ⊎ (length (networkIn (now (net .entry)) .lines) < line)) ⌝ }
 {
     1 <= line && line <= buffer::line_count(net) as u64
-}
-
-// Writes the first `count` numbers of a list at the start of what is lent.
-pub fn put_numbers(list: &[u64], count: usize, lent: &mut [u64])
-    requires { ⌜ (count ≤ length (now list)) × (count ≤ length (now lent)) ⌝ }
-    ensures { λ r. ⌜ now (lent .exit) ≡ take count (now (list .entry)) ++ drop count (now (lent .entry)) ⌝ }
-{
-    for i in 0..count {
-        lent[i] = list[i];
-    }
 }
 
 // The answer to what a search found: how many members the best set has, its total, the visits, and whether the search is spent.

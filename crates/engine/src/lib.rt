@@ -141,12 +141,8 @@ pub fn search(file: &[u8], members: &mut [u64]) -> SearchAnswer
     let answer = load_search(file, &mut best);
     match answer {
         SearchAnswer::Refused { .. } => {}
-        SearchAnswer::Finished { members: count, .. } => answers::put_numbers(
-            &best,
-            count,
-            members,
-        ),
-        SearchAnswer::Spent { members: count, .. } => answers::put_numbers(&best, count, members),
+        SearchAnswer::Finished { members: count, .. } => lists::put_numbers(&best, count, members),
+        SearchAnswer::Spent { members: count, .. } => lists::put_numbers(&best, count, members),
     }
     answer
 }

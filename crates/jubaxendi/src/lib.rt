@@ -33,7 +33,7 @@ pub extern "C" fn jubaxendi_impact(file: &[u8], line: u64, answer: &mut [u64; 8]
     match engine::impact(file, line) {
         ImpactAnswer::Refused { number, record } => answers::refusal(number, record),
         ImpactAnswer::Customers(customers) => {
-            answers::put_numbers(&[customers], 1, answer);
+            lists::put_numbers(&[customers], 1, answer);
             0
         }
     }
@@ -48,7 +48,7 @@ pub extern "C" fn jubaxendi_total(file: &[u8], answer: &mut [u64; 8]) -> u64
     match engine::total(file) {
         TotalAnswer::Refused { number, record } => answers::refusal(number, record),
         TotalAnswer::Outage { total, figure } => {
-            answers::put_numbers(&[total, figure], 2, answer);
+            lists::put_numbers(&[total, figure], 2, answer);
             0
         }
     }
@@ -70,7 +70,7 @@ pub extern "C" fn jubaxendi_search(file: &[u8], members: &mut [u64], answer: &mu
             total,
             visits,
         } => {
-            answers::put_numbers(&[1, count as u64, total, visits], 4, answer);
+            lists::put_numbers(&[1, count as u64, total, visits], 4, answer);
             0
         }
         SearchAnswer::Spent {
@@ -78,7 +78,7 @@ pub extern "C" fn jubaxendi_search(file: &[u8], members: &mut [u64], answer: &mu
             total,
             visits,
         } => {
-            answers::put_numbers(&[0, count as u64, total, visits], 4, answer);
+            lists::put_numbers(&[0, count as u64, total, visits], 4, answer);
             0
         }
     }
@@ -95,7 +95,7 @@ pub extern "C" fn jubaxendi_report(file: &[u8], text: &mut [u8], answer: &mut [u
     match engine::report(file, text) {
         ReportAnswer::Refused { number, record } => answers::refusal(number, record),
         ReportAnswer::Written(length) => {
-            answers::put_numbers(&[length as u64], 1, answer);
+            lists::put_numbers(&[length as u64], 1, answer);
             0
         }
     }
@@ -112,7 +112,7 @@ pub extern "C" fn jubaxendi_segments(file: &[u8], table: &mut [u64], answer: &mu
     match engine::segments(file, table) {
         SegmentsAnswer::Refused { number, record } => answers::refusal(number, record),
         SegmentsAnswer::Entries(entries) => {
-            answers::put_numbers(&[entries as u64], 1, answer);
+            lists::put_numbers(&[entries as u64], 1, answer);
             0
         }
     }
@@ -127,7 +127,7 @@ pub extern "C" fn jubaxendi_ceiling(places: u64, additions: u64, answer: &mut [u
     match binomials::ceiling(places, additions) {
         CeilingAnswer::Refused { number, record } => answers::refusal(number, record),
         CeilingAnswer::Sets(sets) => {
-            answers::put_numbers(&[sets], 1, answer);
+            lists::put_numbers(&[sets], 1, answer);
             0
         }
     }

@@ -1,4 +1,3 @@
-pub mod Copying
 pub mod Visiting
 pub mod Trying
 pub mod Bounding

@@ -39,16 +39,6 @@ pub struct Current {
     pub hours: u64,
 }
 
-// Copies the first `size` place numbers of a set.
-fn copy_set(set: &[u64; 16], size: usize, best: &mut [u64; 16])
-    requires { ⌜ (length (now set) ≡ 16) × (length (now best) ≡ 16) × (size ≤ 16) ⌝ }
-    ensures { λ r. ⌜ (length (now (best .exit)) ≡ 16) × (take size (now (best .exit)) ≡ take size (now (set .entry))) ⌝ }
-{
-    for i in 0..size {
-        best[i] = set[i];
-    }
-}
-
 // A visit of a set is due. At the limit the walk is spent. Else the visit is counted, and the set is best if it saves more.
 fn visit(
     net: &buffer::Net,
@@ -77,7 +67,7 @@ fn visit(
     }
     let visits = progress.visits + 1;
     if most.below(saved) {
-        copy_set(set, size, best);
+        lists::put_numbers(set, size, best);
         return Progress {
             saved,
             count: size,

@@ -4,6 +4,7 @@ use native.Mathlib.Omega.{arith}
 use lib.ListN.{take}
 use Rattle.model.specs.Outage.{total}
 use Rattle.buffer.specs.Buffer.{networkIn}
+use Rattle.lists.proofs.Writing.{written-first, written-long}
 use Rattle.search.proofs.Visiting.{visit-spent, visit-better, visit-other}
 use borrow.Author.Needs.{needs}
 use Rattle.search.proofs.visit.Statement.{statement}
@@ -22,16 +23,16 @@ below-requires c κs = tt
 
 returns-2 : tie.Need-returns-2
 returns-2 c =
-    let d = c .before .before .before .before .before .before .before .before .before in
+    let d = c .before .before .before .before .before .before .before .before .before .before in
     let n = networkIn (d .args .net .now) in
     let S = take (d .args .size) (d .args .set .now) in
-    let k = c .copy-set in
-    let l : d .args .progress .visits ≡ n .head .visits → ⊥ = λ e. c .before .before .before .before .before .if1 .left (e ∙ sym (c .before .before .before .before .before .before .before .visits .ensures)) in
-    let b = sym (c .before .before .before .below .ensures) ∙ c .before .before .if2 .taken in
+    let k = c .put-numbers in
+    let l : d .args .progress .visits ≡ n .head .visits → ⊥ = λ e. c .before .before .before .before .before .before .if1 .left (e ∙ sym (c .before .before .before .before .before .before .before .before .visits .ensures)) in
+    let b = sym (c .before .before .before .before .below .ensures) ∙ c .before .before .before .if2 .taken in
     let most : d .args .saved .0 ≤ total n = omega (arith, d .pre .3) in (
-      k .ensures .0,
+      written-long (d .args .set .now) (d .args .best .now) (k .last .1 .1 .0) (d .args .size) (omega (arith, d .pre)) (omega (arith, d .pre)) (k .ensures) ∙ d .pre .1,
       record { saved = most; count = d .pre .2; visits = omega arith; limit = d .pre .4 .limit },
-      visit-better n S (d .args .progress) (d .args .best .now) (d .pre .4) l (d .args .saved .0) (d .pre .3) (take (d .args .size) (k .last .1 .1 .0)) (k .ensures .1) b,
+      visit-better n S (d .args .progress) (d .args .best .now) (d .pre .4) l (d .args .saved .0) (d .pre .3) (take (d .args .size) (k .last .1 .1 .0)) (written-first (d .args .set .now) (d .args .best .now) (k .last .1 .1 .0) (d .args .size) (omega (arith, d .pre)) (k .ensures)) b,
     )
 
 returns-3 : tie.Need-returns-3

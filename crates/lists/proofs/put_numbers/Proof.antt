@@ -3,9 +3,9 @@ use mathlib.Core.Path.{_≡_, subst}
 use mathlib.Core.List.{_++_}
 use native.Mathlib.Omega.{arith}
 use lib.ListN.{take, drop}
-use Rattle.answers.proofs.Members.{Put, put-none, put-more, put-all}
-use Rattle.answers.proofs.put_numbers.Statement.{statement}
-use Rattle.answers.proofs.put_numbers.Tie as tie
+use Rattle.lists.proofs.Writing.{Put, put-none, put-more, put-all}
+use Rattle.lists.proofs.put_numbers.Statement.{statement}
+use Rattle.lists.proofs.put_numbers.Tie as tie
 
 abbrev Inv-loop : tie.InvT-loop
 Inv-loop list count lent₀ i₀ lent i = (i ≤ count) × Put list lent₀ i lent
