@@ -98,6 +98,6 @@ module _ (up : End → List End) where
   pub covered : (B : End → Bool) (q : End) → B noEnd ≡ false → B q ≡ false → (es : List End) → Way up es → covers B q es ≡ true → firstOr noEnd B es ≡ upstream B q
   covered B q n f es w h = sameEnd-eq _ _ (both (has q es) (sameEnd (firstOr noEnd B es) (upstream B q)) (sym (covers-is B q n f es w) ∙ h) .1)
 
-  -- Near ends: with a breaker at q, q's trips for what lies behind p where p is under q.
+  -- Upstream breakers: with a breaker at q, q's trips for what lies behind p where p is under q.
   pub upstream-with : (B : End → Bool) (p q : End) → B noEnd ≡ false → B q ≡ false → Way up (up p) → upstream (with B q) p ≡ this (under B p q) q (upstream B p)
   upstream-with B p q n f w = first-with B q (up p) ∙ ap (λ b. this b q (upstream B p)) (covers-is B q n f (up p) w)
