@@ -66,14 +66,14 @@ fill-bounds-spec =
     μ-loop
     write-sums-requires
     loop-holds
-    (search needs)
-    (search needs)
-    (search needs)
-    (search needs)
-    (search needs)
+    (λ c. omega arith)
+    (λ c. omega arith)
+    (λ c. omega arith)
+    (λ c. omega arith)
+    (λ c. omega arith)
     insert-falling-requires
-    (search needs)
+    (λ c. omega arith)
     write-sums-requires-2
-    (search needs)
+    (λ c. omega arith)
     loop-again
     returns)

@@ -1,3 +1,4 @@
+use native.Mathlib.Omega.{arith}
 use Rattle.bounds.proofs.Entries.{bound-is}
 use borrow.Author.Needs.{needs}
 use Rattle.bounds.proofs.most_saved.Statement.{statement}
@@ -9,4 +10,4 @@ returns c =
     bound-is _ (c .before .args .bounds .now) (p .0) _ _ (p .3) (p .4) (p .5)
 
 pub most-saved-spec : {M : Type 1} → statement M
-most-saved-spec = tie.close (tie.spec (search needs) (search needs) (search needs) (search needs) (search needs) returns)
+most-saved-spec = tie.close (tie.spec (λ c. omega arith) (λ c. omega arith) (λ c. omega arith) (λ c. omega arith) (λ c. omega arith) returns)

@@ -75,7 +75,7 @@ enter-spec =
     (tie.spec
     Inv-loop
     μ-loop
-    (search needs)
+    (λ c. omega arith)
     mul-row
     mul-i-end
     element-copy-out-i-end
@@ -90,6 +90,6 @@ enter-spec =
     keep-requires
     put-requires
     add-i
-    (search needs)
+    (λ c. omega arith)
     loop-again
     returns)

@@ -49,7 +49,7 @@ fall-spec =
     tie.close
     (tie.spec
     (λ c κs. search needs)
-    (search needs)
+    (λ c. omega arith)
     add-spared
     sub-spared
     mul-spared
@@ -59,7 +59,7 @@ fall-spec =
     element-copy-out-spared-2
     sub-spared-3
     (λ c κs. search needs)
-    (search needs)
-    (search needs)
+    (λ c. omega arith)
+    (λ c. omega arith)
     times-requires
     returns)

@@ -1,3 +1,4 @@
+use native.Mathlib.Omega.{arith}
 use Rattle.prospects.proofs.Undoing.{put-is}
 use borrow.Author.Needs.{needs}
 use Rattle.prospects.proofs.put.Statement.{statement}
@@ -10,12 +11,12 @@ pub put-spec : {M : Type 1} → statement M
 put-spec =
     tie.close
     (tie.spec
-    (search needs)
-    (search needs)
-    (search needs)
-    (search needs)
-    (search needs)
-    (search needs)
-    (search needs)
-    (search needs)
+    (λ c. omega arith)
+    (λ c. omega arith)
+    (λ c. omega arith)
+    (λ c. omega arith)
+    (λ c. omega arith)
+    (λ c. omega arith)
+    (λ c. omega arith)
+    (λ c. omega arith)
     returns)

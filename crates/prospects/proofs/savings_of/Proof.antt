@@ -1,3 +1,4 @@
+use native.Mathlib.Omega.{arith}
 use Prim.Native.Nat.{_+_, _-_}
 use mathlib.Core.Path.{_∙_}
 use borrow.Author.Needs.{needs}
@@ -36,14 +37,14 @@ savings-of-spec =
     (tie.spec
     Inv-loop
     μ-loop
-    (search needs)
+    (λ c. omega arith)
     loop-holds
-    (search needs)
+    (λ c. omega arith)
     fall-requires
-    (search needs)
-    (search needs)
-    (search needs)
-    (search needs)
-    (search needs)
+    (λ c. omega arith)
+    (λ c. omega arith)
+    (λ c. omega arith)
+    (λ c. omega arith)
+    (λ c. omega arith)
     loop-again
     returns)

@@ -1,3 +1,4 @@
+use native.Mathlib.Omega.{arith}
 use borrow.Author.Tests.{eq-eqb, ne-eqb}
 use borrow.Author.Needs.{needs}
 use Rattle.starts.proofs.behind.Statement.{statement}
@@ -12,4 +13,4 @@ returns-2 c = rw (ne-eqb (c .before .before .args .s) (c .before .before .args .
 pub behind-spec : {M : Type 1} → statement M
 behind-spec =
     tie.close
-    (tie.spec (search needs) (search needs) (search needs) (search needs) returns returns-2)
+    (tie.spec (λ c. omega arith) (λ c. omega arith) (λ c. omega arith) (λ c. omega arith) returns returns-2)

@@ -27,4 +27,4 @@ returns-2 c =
     (e, place-few (s .args .net .now) (s .args .sides .now) (s .pre .0) (s .pre .1) (s .args .line) (s .pre .4) (c .first-beyond .result) e)
 
 pub far-place-spec : {M : Type 1} → statement M
-far-place-spec = tie.close (tie.spec (search needs) (search needs) (search needs) sub-end-state-2 end-state-requires returns first-beyond-requires returns-2)
+far-place-spec = tie.close (tie.spec (λ c. omega arith) (λ c. omega arith) (λ c. omega arith) sub-end-state-2 end-state-requires returns first-beyond-requires returns-2)

@@ -71,17 +71,17 @@ own-weights-spec =
     (tie.spec
     Inv-loop
     μ-loop
-    (search needs)
-    (search needs)
+    (λ c. omega arith)
+    (λ c. omega arith)
     loop-holds
     stop-of-requires
     mul-own
     array-read-own
-    (search needs)
+    (λ c. omega arith)
     add-own
     mul-own-2
     array-write-own
-    (search needs)
-    (search needs)
+    (λ c. omega arith)
+    (λ c. omega arith)
     loop-again
     returns)

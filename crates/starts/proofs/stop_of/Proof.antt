@@ -29,13 +29,13 @@ pub stop-of-spec : {M : Type 1} → statement M
 stop-of-spec =
     tie.close
     (tie.spec
-    (search needs)
-    (search needs)
-    (search needs)
+    (λ c. omega arith)
+    (λ c. omega arith)
+    (λ c. omega arith)
     returns
-    (search needs)
-    (search needs)
-    (search needs)
+    (λ c. omega arith)
+    (λ c. omega arith)
+    (λ c. omega arith)
     place-line-requires
     sub-if2-2
     mul-if2-2

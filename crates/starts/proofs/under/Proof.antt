@@ -1,3 +1,4 @@
+use native.Mathlib.Omega.{arith}
 use borrow.Author.Needs.{needs}
 use Rattle.starts.proofs.UnderPlaces.{second-part, first-part}
 use Rattle.starts.proofs.under.Statement.{statement}
@@ -13,10 +14,10 @@ pub under-spec : {M : Type 1} → statement M
 under-spec =
     tie.close
     (tie.spec
-    (search needs)
-    (search needs)
-    (search needs)
-    (search needs)
-    (search needs)
+    (λ c. omega arith)
+    (λ c. omega arith)
+    (λ c. omega arith)
+    (λ c. omega arith)
+    (λ c. omega arith)
     returns
     returns-2)

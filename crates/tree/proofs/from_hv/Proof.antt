@@ -56,15 +56,15 @@ from-hv-spec =
     (tie.spec
     Inv-loop
     μ-loop
-    (search needs)
-    (search needs)
+    (λ c. omega arith)
+    (λ c. omega arith)
     loop-holds
-    (search needs)
-    (search needs)
-    (search needs)
-    (search needs)
+    (λ c. omega arith)
+    (λ c. omega arith)
+    (λ c. omega arith)
+    (λ c. omega arith)
     append-requires
-    (search needs)
-    (search needs)
+    (λ c. omega arith)
+    (λ c. omega arith)
     loop-again
     returns)

@@ -49,8 +49,8 @@ pub from-line-spec : {M : Type 1} → statement M
 from-line-spec =
     tie.close
     (tie.spec
-    (search needs)
-    (search needs)
+    (λ c. omega arith)
+    (λ c. omega arith)
     mul-code
     add-code
     sub-code
@@ -60,8 +60,8 @@ from-line-spec =
     is-closed-requires
     returns
     station-of-requires
-    (search needs)
-    (search needs)
-    (search needs)
+    (λ c. omega arith)
+    (λ c. omega arith)
+    (λ c. omega arith)
     append-requires
     returns-2)

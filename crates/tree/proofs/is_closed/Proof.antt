@@ -1,3 +1,4 @@
+use native.Mathlib.Omega.{arith}
 use mathlib.Core.Path.{ap}
 use mathlib.Core.Bool.{not}
 use lib.Dec.{eqb}
@@ -9,4 +10,4 @@ returns : tie.Need-returns
 returns c = ap (λ n. not (eqb n 2)) (c .end-state .ensures)
 
 pub is-closed-spec : {M : Type 1} → statement M
-is-closed-spec = tie.close (tie.spec (search needs) (search needs) (search needs) returns)
+is-closed-spec = tie.close (tie.spec (λ c. omega arith) (λ c. omega arith) (λ c. omega arith) returns)

@@ -39,7 +39,7 @@ outwards-spec =
     (λ c κs. search needs)
     loop-holds
     from-line-requires
-    (search needs)
-    (search needs)
+    (λ c. omega arith)
+    (λ c. omega arith)
     loop-again
     returns)

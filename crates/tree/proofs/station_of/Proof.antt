@@ -12,4 +12,4 @@ returns c = let a = c .before .args in
     (c .end-station .ensures, omega (arith, i .0, c .end-station .ensures), omega (arith, i .1, c .end-station .ensures))
 
 pub station-of-spec : {M : Type 1} → statement M
-station-of-spec = tie.close (tie.spec (search needs) (search needs) (search needs) returns)
+station-of-spec = tie.close (tie.spec (λ c. omega arith) (λ c. omega arith) (λ c. omega arith) returns)
