@@ -9,8 +9,14 @@ use Rattle.model.specs.Network.{Head, Network, value, headOf, stationOf, lineOf
 abbrev pub size : ℕ
 size = 5129
 
--- where the number of breakers that may be added and the number of places stand, and where the stations, the lines and the
--- places begin
+-- where the numbers of stations, of lines, of breakers that may be added and of places stand, and where the stations, the lines
+-- and the places begin
+abbrev pub stationCountAt : ℕ
+stationCountAt = 0
+
+abbrev pub lineCountAt : ℕ
+lineCountAt = 1
+
 abbrev pub addsAt : ℕ
 addsAt = 4
 
@@ -38,6 +44,20 @@ lineWidth = 5
 
 abbrev pub placeWidth : ℕ
 placeWidth = 4
+
+-- where a number stands among those of its line: the weight first, the state of an end so many behind the end's number, 1 or 2
+abbrev pub stateBehind : ℕ
+stateBehind = 2
+
+-- where a number stands among those of its place, of which the line is first
+abbrev pub sideInPlace : ℕ
+sideInPlace = 1
+
+abbrev pub costInPlace : ℕ
+costInPlace = 2
+
+abbrev pub hoursInPlace : ℕ
+hoursInPlace = 3
 
 -- so many records of so many numbers each
 unfoldable pub recordsIn : ℕ → ℕ → List ℕ → List (List ℕ)

@@ -4,10 +4,10 @@ use mathlib.Core.Path.{_≡_, refl, sym, ap, ap₂, _∙_}
 use mathlib.Core.List.{List, [], _∷_, _++_, map}
 use native.Mathlib.Nat.{suc-mul, zero-mul}
 use native.Mathlib.Omega.{arith}
-use lib.ListN.{length, take, drop, length-drop, take-append-drop}
-use lib.Seq.{take-append-le, drop-append-le, drop-drop, getD-take, length-take-le, take-take}
-use Rattle.model.specs.Network.{value, headOf, stationOf, lineOf}
-use Rattle.buffer.specs.Buffer.{stationsAt, linesAt, headWidth, stationWidth, lineWidth, recordsIn, networkIn}
+use lib.ListN.{length, take, drop, set, length-drop, take-append-drop}
+use lib.Seq.{take-append-le, drop-append-le, drop-drop, getD-take, getD-set-same, getD-set-other, length-take-le, take-take}
+use Rattle.model.specs.Network.{Head, value, headOf, stationOf, lineOf}
+use Rattle.buffer.specs.Buffer.{addsAt, stationsAt, linesAt, headWidth, stationWidth, lineWidth, recordsIn, networkIn}
 use Rattle.buffer.specs.Fields.{station-count, line-count}
 
 module _ (width : ℕ) where
@@ -37,21 +37,52 @@ module _ (width : ℕ) where
       ∙ front n (drop i (take a b)) (drop a b) (omega (arith, length-drop i (take a b)))
 
 -- ── the parts of a network in its buffer ──
+-- heads of the same numbers
+pub same-head : (b c : List ℕ) → ((i : ℕ) → i < headWidth → value b i ≡ value c i) → headOf b ≡ headOf c
+unfolding headOf
+same-head b c at = rw (
+  at 0 (omega arith),
+  at 1 (omega arith),
+  at 2 (omega arith),
+  at 3 (omega arith),
+  at 4 (omega arith),
+  at 5 (omega arith),
+  at 6 (omega arith),
+  at 7 (omega arith),
+) refl
+
+-- the head with another number of breakers that may be added, in the buffer with that number written
+unfoldable pub headWithAdds : Head → ℕ → Head
+headWithAdds h adds = record {
+  stations = h .stations;
+  lines = h .lines;
+  minutes = h .minutes;
+  series = h .series;
+  adds = adds;
+  money = h .money;
+  hours = h .hours;
+  visits = h .visits;
+}
+
+pub adds-in-head : (b : List ℕ) (adds : ℕ) → addsAt < length b → headOf (set b addsAt adds) ≡ headWithAdds (headOf b) adds
+unfolding headOf headWithAdds
+adds-in-head b adds h =
+    let other : (i : ℕ) → (i ≡ addsAt → ⊥) → value (set b addsAt adds) i ≡ value b i = λ i d. getD-set-other b addsAt i adds 0 d in
+    rw (
+      other 0 (λ e. omega arith),
+      other 1 (λ e. omega arith),
+      other 2 (λ e. omega arith),
+      other 3 (λ e. omega arith),
+      getD-set-same b addsAt adds 0 h,
+      other 5 (λ e. omega arith),
+      other 6 (λ e. omega arith),
+      other 7 (λ e. omega arith),
+    ) refl
+
 module _ (b : List ℕ) where
   pub head-in : networkIn b .head ≡ headOf (take headWidth b)
-  unfolding networkIn headOf
-  head-in =
-      let at : (i : ℕ) → i < headWidth → value b i ≡ value (take headWidth b) i = λ i h. sym (getD-take headWidth b i 0 h) in
-      rw (
-        at 0 (omega arith),
-        at 1 (omega arith),
-        at 2 (omega arith),
-        at 3 (omega arith),
-        at 4 (omega arith),
-        at 5 (omega arith),
-        at 6 (omega arith),
-        at 7 (omega arith),
-      ) refl
+  unfolding networkIn
+  head-in = same-head b (take headWidth b) (λ i h. sym (getD-take headWidth b i 0 h))
 
   pub stations-in : networkIn b .stations ≡ map stationOf (recordsIn stationWidth (networkIn b .head .stations) (drop stationsAt b))
   unfolding networkIn
@@ -73,19 +104,10 @@ module _ (b : List ℕ) where
 -- ── two buffers that are the same before the lines ──
 module _ (b c : List ℕ) where
   pub head-kept : take stationsAt b ≡ take stationsAt c → networkIn b .head ≡ networkIn c .head
-  unfolding networkIn headOf
+  unfolding networkIn
   head-kept same =
-      let at : (i : ℕ) → i < stationsAt → value b i ≡ value c i = λ i h. sym (getD-take stationsAt b i 0 h) ∙ ap (λ (l : List ℕ). value l i) same ∙ getD-take stationsAt c i 0 h in
-      rw (
-        at 0 (omega arith),
-        at 1 (omega arith),
-        at 2 (omega arith),
-        at 3 (omega arith),
-        at 4 (omega arith),
-        at 5 (omega arith),
-        at 6 (omega arith),
-        at 7 (omega arith),
-      ) refl
+      let at : (i : ℕ) (x : List ℕ) → i < headWidth → value (take stationsAt x) i ≡ value x i = λ i x h. getD-take stationsAt x i 0 (omega arith) in
+      same-head b c (λ i h. sym (at i b h) ∙ ap (λ (l : List ℕ). value l i) same ∙ at i c h)
 
   module _ (same : take linesAt b ≡ take linesAt c) where
     pub head-before : take stationsAt b ≡ take stationsAt c

@@ -2,7 +2,7 @@
 // from 9 on, 5 a line from 1033 on and 4 a place from 4873 on. Stations, lines, ends and places have the file's numbers, from 1.
 ghost use mathlib.Core.Path.{_≡_};
 ghost use lib.ListN.{length};
-ghost use Rattle.model.specs.Paths.{state, isBreaker, stationAt, isHV, customersOf};
+ghost use Rattle.model.specs.Paths.{state, isPlain, isBreaker, isOpen, stationAt, isHV, customersOf};
 ghost use Rattle.model.specs.Sets.{placeAt};
 ghost use Rattle.buffer.specs.Buffer.{networkIn};
 ghost use Rattle.buffer.specs.Fits.{StationThere, LineThere, EndThere, PlaceThere, lineIn, endIn};
@@ -29,8 +29,23 @@ pub const LINE_WIDTH: usize = 5;
 
 pub const PLACE_WIDTH: usize = 4;
 
+// Where a number stands among those of its line: the weight first, the state of an end so many behind the end's number, 1 or 2.
+pub const STATE_BEHIND: usize = 2;
+
+// Where a number stands among those of its place, of which the line is first.
+pub const SIDE_IN_PLACE: usize = 1;
+
+pub const COST_IN_PLACE: usize = 2;
+
+pub const HOURS_IN_PLACE: usize = 3;
+
 // The buffer of a network.
 pub type Net = [u64; SIZE];
+
+// Room for a network.
+pub fn space() -> Net {
+    [0; SIZE]
+}
 
 // How many stations there are.
 pub fn station_count(net: &Net) -> usize
@@ -127,12 +142,28 @@ pub fn end_state(net: &Net, line: usize, side: usize) -> u64
     net[5 * line + side + 1030]
 }
 
+// Whether an end, 1 or 2, of a line is plain.
+pub fn is_plain(net: &Net, line: usize, side: usize) -> bool
+    requires { ⌜ EndThere (now net) line side ⌝ }
+    ensures { λ r. ⌜ r ≡ isPlain (networkIn (now (net .entry))) (endIn line side) ⌝ }
+{
+    end_state(net, line, side) == 0
+}
+
 // Whether an end, 1 or 2, of a line is a breaker.
 pub fn is_breaker(net: &Net, line: usize, side: usize) -> bool
     requires { ⌜ EndThere (now net) line side ⌝ }
     ensures { λ r. ⌜ r ≡ isBreaker (networkIn (now (net .entry))) (endIn line side) ⌝ }
 {
     end_state(net, line, side) == 1
+}
+
+// Whether an end, 1 or 2, of a line is open.
+pub fn is_open(net: &Net, line: usize, side: usize) -> bool
+    requires { ⌜ EndThere (now net) line side ⌝ }
+    ensures { λ r. ⌜ r ≡ isOpen (networkIn (now (net .entry))) (endIn line side) ⌝ }
+{
+    end_state(net, line, side) == 2
 }
 
 // The station that an end, 1 or 2, of a line is at.

@@ -8,6 +8,7 @@ use lib.ListN.{take}
 use Rattle.model.specs.Lists.{numbered, renumbered}
 use Rattle.model.specs.Network.{Network, Line, Place, noLine}
 use Rattle.model.specs.Sets.{lineWithBreaker, withBreaker}
+use Rattle.buffer.specs.Parts.{headWithAdds}
 
 -- a line with another state at one of its ends
 unfoldable pub lineWithState : ℕ → ℕ → Line → Line
@@ -46,17 +47,9 @@ withWeight N line weight = withLine N line (lineWithWeight weight)
 
 -- the network where so many breakers may be added
 unfoldable pub withAdds : Network → ℕ → Network
+unfolding headWithAdds
 withAdds N adds = record {
-  head = record {
-    stations = N .head .stations;
-    lines = N .head .lines;
-    minutes = N .head .minutes;
-    series = N .head .series;
-    adds = adds;
-    money = N .head .money;
-    hours = N .head .hours;
-    visits = N .head .visits;
-  };
+  head = headWithAdds (N .head) adds;
   stations = N .stations;
   lines = N .lines;
   places = N .places;

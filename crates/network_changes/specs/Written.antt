@@ -9,10 +9,10 @@ use lib.ListN.{length, take, drop, set, length-drop, length-set}
 use lib.Seq.{drop-drop, drop-set-add, drop-set-lt, take-set-le, take-set-lt, getD-set-same, getD-set-other, length-take-le, set-set, set-append-seam}
 use Rattle.model.specs.Lists.{renumbered}
 use Rattle.model.specs.Network.{Head, Station, Line, Place, Network, value, headOf, stationOf, lineOf, placeOf}
-use Rattle.buffer.specs.Buffer.{size, addsAt, stationsAt, linesAt, placesAt, placeCountAt, stationWidth, lineWidth, placeWidth, recordsIn, networkIn}
+use Rattle.buffer.specs.Buffer.{size, stationCountAt, lineCountAt, addsAt, placeCountAt, stationsAt, linesAt, placesAt, stationWidth, lineWidth, placeWidth, stateBehind, sideInPlace, costInPlace, hoursInPlace, recordsIn, networkIn}
 use Rattle.buffer.specs.Fits.{Fits, LineThere, PlaceThere}
 use Rattle.buffer.specs.Fields.{station-count, line-count, place-count, line-at}
-use Rattle.buffer.specs.Parts.{records-last}
+use Rattle.buffer.specs.Parts.{records-last, same-head, adds-in-head}
 use Rattle.network_changes.specs.Changed.{lineWithState, lineWithWeight, withLines, withLine, withState, withWeight, withAdds, withPlaces, withPlace, withFirstPlaces, withOneMore}
 
 -- ── records one behind the other ──
@@ -90,8 +90,8 @@ placeFrom p = placesAt + placeWidth * (p - 1)
 -- the stations and the lines that a buffer counts are in it
 pub record Room (b : List ℕ) : Type 0 where
   pub long : length b ≡ size
-  pub stations : value b 0 ≤ 512
-  pub lines : value b 1 ≤ 768
+  pub stations : value b stationCountAt ≤ 512
+  pub lines : value b lineCountAt ≤ 768
 
 pub room : (b : List ℕ) → length b ≡ size → Fits (networkIn b) → Room b
 room b long f = record { long = long; stations = omega (arith, f .stations, station-count b); lines = omega (arith, f .lines, line-count b) }
@@ -104,22 +104,12 @@ module _ (b : List ℕ) (r : Room b) (j v : ℕ) (h : stationsAt ≤ j) where
   room-kept : Room (set b j v)
   room-kept = record {
     long = length-set b j v ∙ r .long;
-    stations = omega (arith, r .stations, value-same 0 (omega arith));
-    lines = omega (arith, r .lines, value-same 1 (omega arith));
+    stations = omega (arith, r .stations, value-same stationCountAt (omega arith));
+    lines = omega (arith, r .lines, value-same lineCountAt (omega arith));
   }
 
   head-same : headOf (set b j v) ≡ headOf b
-  unfolding headOf
-  head-same = rw (
-    value-same 0 (omega arith),
-    value-same 1 (omega arith),
-    value-same 2 (omega arith),
-    value-same 3 (omega arith),
-    value-same 4 (omega arith),
-    value-same 5 (omega arith),
-    value-same 6 (omega arith),
-    value-same 7 (omega arith),
-  )
+  head-same = same-head (set b j v) b (λ i k. value-same i (omega arith))
 
   -- records that end before the number
   records-same : (width n start : ℕ) → start + width * n ≤ j → recordsIn width n (drop start (set b j v)) ≡ recordsIn width n (drop start b)
@@ -129,10 +119,10 @@ module _ (b : List ℕ) (r : Room b) (j v : ℕ) (h : stationsAt ≤ j) where
       ∙ records-before width n (drop start b) (j - start) v (omega arith)
 
   stations-same : linesAt ≤ j
-      → map stationOf (recordsIn stationWidth (value (set b j v) 0) (drop stationsAt (set b j v))) ≡ map stationOf (recordsIn stationWidth (value b 0) (drop stationsAt b))
+      → map stationOf (recordsIn stationWidth (value (set b j v) stationCountAt) (drop stationsAt (set b j v))) ≡ map stationOf (recordsIn stationWidth (value b stationCountAt) (drop stationsAt b))
   stations-same k =
-      ap (λ n. map stationOf (recordsIn stationWidth n (drop stationsAt (set b j v)))) (value-same 0 (omega arith))
-      ∙ ap (map stationOf) (records-same stationWidth (value b 0) stationsAt (omega (arith, r .stations)))
+      ap (λ n. map stationOf (recordsIn stationWidth n (drop stationsAt (set b j v)))) (value-same stationCountAt (omega arith))
+      ∙ ap (map stationOf) (records-same stationWidth (value b stationCountAt) stationsAt (omega (arith, r .stations)))
 
   -- number i of line l
   line-set : (l i : ℕ) → 1 ≤ l → l ≤ 768 → i < lineWidth → j ≡ lineFrom l + i
@@ -140,8 +130,8 @@ module _ (b : List ℕ) (r : Room b) (j v : ℕ) (h : stationsAt ≤ j) where
   unfolding networkIn withLines network headOf
   line-set l i low high k e =
       same-parts head-same (stations-same (omega arith))
-      (ap (λ n. map lineOf (recordsIn lineWidth n (drop linesAt (set b j v)))) (value-same 1 (omega arith))
-      ∙ numbered-set lineOf lineWidth linesAt (value b 1) l i j v b low k e)
+      (ap (λ n. map lineOf (recordsIn lineWidth n (drop linesAt (set b j v)))) (value-same lineCountAt (omega arith))
+      ∙ numbered-set lineOf lineWidth linesAt (value b lineCountAt) l i j v b low k e)
       (ap₂ (λ n (b′ : List ℕ). map placeOf (recordsIn placeWidth n b′)) (value-same placeCountAt (omega arith)) (drop-set-lt placesAt b j v (omega arith)))
 
   -- number i of place p
@@ -150,8 +140,8 @@ module _ (b : List ℕ) (r : Room b) (j v : ℕ) (h : stationsAt ≤ j) where
   unfolding networkIn withPlace withPlaces network headOf
   place-set p i low k e =
       same-parts head-same (stations-same (omega arith))
-      (ap (λ n. map lineOf (recordsIn lineWidth n (drop linesAt (set b j v)))) (value-same 1 (omega arith))
-      ∙ ap (map lineOf) (records-same lineWidth (value b 1) linesAt (omega (arith, r .lines))))
+      (ap (λ n. map lineOf (recordsIn lineWidth n (drop linesAt (set b j v)))) (value-same lineCountAt (omega arith))
+      ∙ ap (map lineOf) (records-same lineWidth (value b lineCountAt) linesAt (omega (arith, r .lines))))
       (ap (λ n. map placeOf (recordsIn placeWidth n (drop placesAt (set b j v)))) (value-same placeCountAt (omega arith))
       ∙ numbered-set placeOf placeWidth placesAt (value b placeCountAt) p i j v b low k e)
 
@@ -163,7 +153,7 @@ part-long : (width at : ℕ) (b : List ℕ) → at + width ≤ length b → widt
 part-long width at b h = omega (arith, length-take-le width (drop at b) (omega (arith, length-drop at b)))
 
 -- ── a line's numbers ──
-state-in : (r : List ℕ) (side state : ℕ) → lineWidth ≤ length r → 1 ≤ side → side ≤ 2 → lineOf (set r (2 + side) state) ≡ lineWithState side state (lineOf r)
+state-in : (r : List ℕ) (side state : ℕ) → lineWidth ≤ length r → 1 ≤ side → side ≤ 2 → lineOf (set r (stateBehind + side) state) ≡ lineWithState side state (lineOf r)
 unfolding lineOf lineWithState
 state-in [] side state h k m = absurd (omega arith)
 state-in (a ∷ []) side state h k m = absurd (omega arith)
@@ -181,10 +171,10 @@ weight-in [] weight h = absurd (omega arith)
 weight-in (a ∷ r) weight h = refl
 
 module _ (b : List ℕ) (long : length b ≡ size) (l : ℕ) (t : LineThere b l) where
-  pub state-written : (side state j : ℕ) → 1 ≤ side → side ≤ 2 → j ≡ lineFrom l + (2 + side) → networkIn (set b j state) ≡ withState (networkIn b) l side state
+  pub state-written : (side state j : ℕ) → 1 ≤ side → side ≤ 2 → j ≡ lineFrom l + (stateBehind + side) → networkIn (set b j state) ≡ withState (networkIn b) l side state
   unfolding withState withLine
   state-written side state j k m e =
-      line-set b (room b long (t .fits)) j state (omega arith) l (2 + side) (t .low) (omega (arith, t .high, t .fits .lines)) (omega arith) e
+      line-set b (room b long (t .fits)) j state (omega arith) l (stateBehind + side) (t .low) (omega (arith, t .high, t .fits .lines)) (omega arith) e
       ∙ ap (λ (x : Line). withLines (networkIn b) (renumbered (networkIn b .lines) l x))
       (state-in (take lineWidth (drop (lineFrom l) b)) side state (part-long lineWidth (lineFrom l) b (omega (arith, t .high, t .fits .lines))) k m
       ∙ ap (lineWithState side state) (sym (line-at b l (t .low) (t .high))))
@@ -198,7 +188,7 @@ module _ (b : List ℕ) (long : length b ≡ size) (l : ℕ) (t : LineThere b l)
       ∙ ap (lineWithWeight weight) (sym (line-at b l (t .low) (t .high))))
 
 -- ── a place's numbers ──
-place-in : (r : List ℕ) (p : Place) → placeWidth ≤ length r → placeOf (set (set (set (set r 0 (p .line)) 1 (p .side)) 2 (p .cost)) 3 (p .hours)) ≡ p
+place-in : (r : List ℕ) (p : Place) → placeWidth ≤ length r → placeOf (set (set (set (set r 0 (p .line)) sideInPlace (p .side)) costInPlace (p .cost)) hoursInPlace (p .hours)) ≡ p
 unfolding placeOf
 place-in [] p h = absurd (omega arith)
 place-in (a ∷ []) p h = absurd (omega arith)
@@ -220,77 +210,66 @@ module _ (b : List ℕ) (r₀ : Room b) (k : ℕ) (low : 1 ≤ k) (high : k ≤ 
   b₁ = set b from (p .line)
 
   abbrev b₂ : List ℕ
-  b₂ = set b₁ (from + 1) (p .side)
+  b₂ = set b₁ (from + sideInPlace) (p .side)
 
   abbrev b₃ : List ℕ
-  b₃ = set b₂ (from + 2) (p .cost)
+  b₃ = set b₂ (from + costInPlace) (p .cost)
 
   abbrev b₄ : List ℕ
-  b₄ = set b₃ (from + 3) (p .hours)
+  b₄ = set b₃ (from + hoursInPlace) (p .hours)
 
   r₁ : Room b₁
   r₁ = room-kept b r₀ from (p .line) (omega arith)
 
   r₂ : Room b₂
-  r₂ = room-kept b₁ r₁ (from + 1) (p .side) (omega arith)
+  r₂ = room-kept b₁ r₁ (from + sideInPlace) (p .side) (omega arith)
 
   r₃ : Room b₃
-  r₃ = room-kept b₂ r₂ (from + 2) (p .cost) (omega arith)
+  r₃ = room-kept b₂ r₂ (from + costInPlace) (p .cost) (omega arith)
 
-  numbers : set (take placeWidth (drop from b₃)) 3 (p .hours) ≡ set (set (set (set (take placeWidth (drop from b)) 0 (p .line)) 1 (p .side)) 2 (p .cost)) 3 (p .hours)
+  numbers : set (take placeWidth (drop from b₃)) hoursInPlace (p .hours)
+      ≡ set (set (set (set (take placeWidth (drop from b)) 0 (p .line)) sideInPlace (p .side)) costInPlace (p .cost)) hoursInPlace (p .hours)
   numbers =
-      ap (λ (r : List ℕ). set r 3 (p .hours))
-      (part-set placeWidth from 2 (from + 2) (p .cost) b₂ (omega arith) refl
-      ∙ ap (λ (r : List ℕ). set r 2 (p .cost)) (part-set placeWidth from 1 (from + 1) (p .side) b₁ (omega arith) refl
-      ∙ ap (λ (r : List ℕ). set r 1 (p .side)) (part-set placeWidth from 0 from (p .line) b (omega arith) (omega arith))))
+      ap (λ (r : List ℕ). set r hoursInPlace (p .hours))
+      (part-set placeWidth from costInPlace (from + costInPlace) (p .cost) b₂ (omega arith) refl
+      ∙ ap (λ (r : List ℕ). set r costInPlace (p .cost)) (part-set placeWidth from sideInPlace (from + sideInPlace) (p .side) b₁ (omega arith) refl
+      ∙ ap (λ (r : List ℕ). set r sideInPlace (p .side)) (part-set placeWidth from 0 from (p .line) b (omega arith) (omega arith))))
 
   pub place-written : networkIn b₄ ≡ withPlace (networkIn b) k p
   place-written =
-      place-set b₃ r₃ (from + 3) (p .hours) (omega arith) k 3 low (omega arith) refl
+      place-set b₃ r₃ (from + hoursInPlace) (p .hours) (omega arith) k hoursInPlace low (omega arith) refl
       ∙ ap₂ (λ (N : Network) (q : Place). withPlace N k q)
-      (place-set b₂ r₂ (from + 2) (p .cost) (omega arith) k 2 low (omega arith) refl)
+      (place-set b₂ r₂ (from + costInPlace) (p .cost) (omega arith) k costInPlace low (omega arith) refl)
       (ap placeOf numbers ∙ place-in (take placeWidth (drop from b)) p (part-long placeWidth from b (omega (arith, r₀ .long))))
       ∙ place-again (networkIn b₂) k _ p
-      ∙ ap (λ (N : Network). withPlace N k p) (place-set b₁ r₁ (from + 1) (p .side) (omega arith) k 1 low (omega arith) refl)
+      ∙ ap (λ (N : Network). withPlace N k p) (place-set b₁ r₁ (from + sideInPlace) (p .side) (omega arith) k sideInPlace low (omega arith) refl)
       ∙ place-again (networkIn b₁) k _ p
       ∙ ap (λ (N : Network). withPlace N k p) (place-set b r₀ from (p .line) (omega arith) k 0 low (omega arith) (omega arith))
       ∙ place-again (networkIn b) k _ p
 
 -- ── a number of the head, and the number of places ──
 module _ (b : List ℕ) (h : placeCountAt < length b) where
+  -- records counted by another number than the one that is written, which stands before them
+  records-stay : {A : Type 0} (f : List ℕ → A) (width start count j v : ℕ) → j < start → (count ≡ j → ⊥)
+      → map f (recordsIn width (value (set b j v) count) (drop start (set b j v))) ≡ map f (recordsIn width (value b count) (drop start b))
+  records-stay f width start count j v k d =
+      ap₂ (λ n (x : List ℕ). map f (recordsIn width n x)) (getD-set-other b j count v 0 d) (drop-set-lt start b j v k)
+
   pub adds-written : (adds : ℕ) → networkIn (set b addsAt adds) ≡ withAdds (networkIn b) adds
-  unfolding networkIn headOf withAdds network
-  adds-written adds = rw (
-    getD-set-other b addsAt 0 adds 0 (λ e. omega arith),
-    getD-set-other b addsAt 1 adds 0 (λ e. omega arith),
-    getD-set-other b addsAt 2 adds 0 (λ e. omega arith),
-    getD-set-other b addsAt 3 adds 0 (λ e. omega arith),
-    getD-set-same b addsAt adds 0 (omega arith),
-    getD-set-other b addsAt 5 adds 0 (λ e. omega arith),
-    getD-set-other b addsAt 6 adds 0 (λ e. omega arith),
-    getD-set-other b addsAt 7 adds 0 (λ e. omega arith),
-    getD-set-other b addsAt 8 adds 0 (λ e. omega arith),
-    drop-set-lt stationsAt b addsAt adds (omega arith),
-    drop-set-lt linesAt b addsAt adds (omega arith),
-    drop-set-lt placesAt b addsAt adds (omega arith),
-  )
+  unfolding networkIn withAdds network
+  adds-written adds =
+      same-parts (adds-in-head b adds (omega arith))
+      (records-stay stationOf stationWidth stationsAt stationCountAt addsAt adds (omega arith) (λ e. omega arith))
+      (records-stay lineOf lineWidth linesAt lineCountAt addsAt adds (omega arith) (λ e. omega arith))
+      (records-stay placeOf placeWidth placesAt placeCountAt addsAt adds (omega arith) (λ e. omega arith))
 
   counted : (n : ℕ) → networkIn (set b placeCountAt n) ≡ withPlaces (networkIn b) (map placeOf (recordsIn placeWidth n (drop placesAt b)))
-  unfolding networkIn headOf withPlaces network
-  counted n = rw (
-    getD-set-other b placeCountAt 0 n 0 (λ e. omega arith),
-    getD-set-other b placeCountAt 1 n 0 (λ e. omega arith),
-    getD-set-other b placeCountAt 2 n 0 (λ e. omega arith),
-    getD-set-other b placeCountAt 3 n 0 (λ e. omega arith),
-    getD-set-other b placeCountAt 4 n 0 (λ e. omega arith),
-    getD-set-other b placeCountAt 5 n 0 (λ e. omega arith),
-    getD-set-other b placeCountAt 6 n 0 (λ e. omega arith),
-    getD-set-other b placeCountAt 7 n 0 (λ e. omega arith),
-    getD-set-same b placeCountAt n 0 h,
-    drop-set-lt stationsAt b placeCountAt n (omega arith),
-    drop-set-lt linesAt b placeCountAt n (omega arith),
-    drop-set-lt placesAt b placeCountAt n (omega arith),
-  )
+  unfolding networkIn withPlaces network
+  counted n =
+      same-parts (same-head (set b placeCountAt n) b (λ i k. getD-set-other b placeCountAt i n 0 (λ e. omega arith)))
+      (records-stay stationOf stationWidth stationsAt stationCountAt placeCountAt n (omega arith) (λ e. omega arith))
+      (records-stay lineOf lineWidth linesAt lineCountAt placeCountAt n (omega arith) (λ e. omega arith))
+      (ap₂ (λ m (x : List ℕ). map placeOf (recordsIn placeWidth m x)) (getD-set-same b placeCountAt n 0 h) (drop-set-lt placesAt b placeCountAt n (omega arith)))
 
   pub fewer-places : (n : ℕ) → n ≤ length (networkIn b .places) → networkIn (set b placeCountAt n) ≡ withFirstPlaces (networkIn b) n
   unfolding withFirstPlaces networkIn
@@ -310,8 +289,8 @@ module _ (b : List ℕ) (h : placeCountAt < length b) where
         let count : length (networkIn b′ .places) ≡ n + 1 = place-count b′ ∙ value-is placeCountAt ∙ getD-set-same b placeCountAt (n + 1) 0 h in
         record {
           fits = record {
-            stations = omega (arith, fits .stations, station-count b, station-count b′, value-is 0, getD-set-other b placeCountAt 0 (n + 1) 0 (λ z. omega arith));
-            lines = omega (arith, fits .lines, line-count b, line-count b′, value-is 1, getD-set-other b placeCountAt 1 (n + 1) 0 (λ z. omega arith));
+            stations = omega (arith, fits .stations, station-count b, station-count b′, value-is stationCountAt, getD-set-other b placeCountAt stationCountAt (n + 1) 0 (λ z. omega arith));
+            lines = omega (arith, fits .lines, line-count b, line-count b′, value-is lineCountAt, getD-set-other b placeCountAt lineCountAt (n + 1) 0 (λ z. omega arith));
             places = omega (arith, count);
           };
           low = omega arith;

@@ -19,7 +19,7 @@ pub fn set_end_state(net: &mut buffer::Net, line: usize, side: usize, state: u64
     requires { ⌜ EndThere (now net) line side ⌝ }
     ensures { λ _. ⌜ networkIn (now (net .exit)) ≡ withState (networkIn (now (net .entry))) line side state ⌝ }
 {
-    let at = buffer::LINES_AT + buffer::LINE_WIDTH * (line - 1) + (2 + side);
+    let at = buffer::LINES_AT + buffer::LINE_WIDTH * (line - 1) + (buffer::STATE_BEHIND + side);
     put(net, at, state);
 }
 
@@ -53,9 +53,9 @@ pub fn set_place(
 {
     let from = buffer::PLACES_AT + buffer::PLACE_WIDTH * (place - 1);
     put(net, from, line as u64);
-    put(net, from + 1, side as u64);
-    put(net, from + 2, cost);
-    put(net, from + 3, hours);
+    put(net, from + buffer::SIDE_IN_PLACE, side as u64);
+    put(net, from + buffer::COST_IN_PLACE, cost);
+    put(net, from + buffer::HOURS_IN_PLACE, hours);
 }
 
 // Leaves the first places only.

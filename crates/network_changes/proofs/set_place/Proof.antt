@@ -3,7 +3,7 @@ use mathlib.Core.List.{List}
 use Prim.Native.Nat.{ℕ, _+_, _*_, _-_}
 use native.Mathlib.Omega.{arith}
 use lib.ListN.{set}
-use Rattle.buffer.specs.Buffer.{placesAt, placeWidth, networkIn}
+use Rattle.buffer.specs.Buffer.{placesAt, placeWidth, sideInPlace, costInPlace, hoursInPlace, networkIn}
 use Rattle.buffer.specs.Fits.{placeOn}
 use Rattle.network_changes.specs.Written.{room, place-written}
 use borrow.Author.Needs.{needs}
@@ -17,9 +17,9 @@ returns c =
     let from = placesAt + placeWidth * (a .place - 1) in
     ap networkIn
     (c .put4 .ensures
-    ∙ ap (λ (b : List ℕ). set b (from + 3) (a .hours))
+    ∙ ap (λ (b : List ℕ). set b (from + hoursInPlace) (a .hours))
     (c .before .before .put3 .ensures
-    ∙ ap (λ (b : List ℕ). set b (from + 2) (a .cost)) (c .before .before .before .before .put2 .ensures ∙ ap (λ (b : List ℕ). set b (from + 1) (a .side)) (c .before .before .before .before .before .before .put .ensures))))
+    ∙ ap (λ (b : List ℕ). set b (from + costInPlace) (a .cost)) (c .before .before .before .before .put2 .ensures ∙ ap (λ (b : List ℕ). set b (from + sideInPlace) (a .side)) (c .before .before .before .before .before .before .put .ensures))))
     ∙ place-written (a .net .now) (room (a .net .now) (search needs) (s .pre .fits)) (a .place) (s .pre .low) (omega (arith, s .pre .high, s .pre .fits .places)) (placeOn (a .line) (a .side) (a .cost) (a .hours))
 
 pub set-place-spec : {M : Type 1} → statement M
