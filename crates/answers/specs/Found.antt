@@ -1,5 +1,5 @@
 -- What the search of a file finds, by the answer of Search.
-use Prim.Native.Nat.{ℕ, _≤_}
+use Prim.Native.Nat.{ℕ}
 use mathlib.Core.Bool.{Bool, true, false}
 use mathlib.Core.List.{List}
 use lib.ListN.{take}
@@ -22,8 +22,8 @@ foundBy (SearchAnswer.Finished m t v) best = given (found m t v false best)
 foundBy (SearchAnswer.Spent m t v) best = given (found m t v true best)
 foundBy (SearchAnswer.Refused number place) best = refused number place
 
--- the answered set has at most 16 places
-unfoldable pub AtMost16 : SearchAnswer → Type 0
-AtMost16 (SearchAnswer.Finished m t v) = m ≤ 16
-AtMost16 (SearchAnswer.Spent m t v) = m ≤ 16
-AtMost16 (SearchAnswer.Refused number place) = Unit
+-- how many members an answered set has; none where there is no answer
+abbrev pub membersOf : SearchAnswer → ℕ
+membersOf (SearchAnswer.Finished m t v) = m
+membersOf (SearchAnswer.Spent m t v) = m
+membersOf (SearchAnswer.Refused number place) = 0

@@ -1,5 +1,5 @@
 // Steps of the calls that are the same for every file: whether what is lent is too short, whether a number is a line's, the answer to
-// what a search found, a refusal as one number.
+// what a search found and how many members it has, a refusal as one number.
 ghost use mathlib.Core.Path.{_≡_};
 ghost use mathlib.Core.Bool.{true, false};
 ghost use mathlib.Core.Logic.{_⊎_};
@@ -8,7 +8,7 @@ ghost use Prim.Native.Nat.{ℕ, _+_, _*_, _≤_, _<_};
 ghost use lib.ListN.{length};
 ghost use Rattle.model.specs.Answer.{given};
 ghost use Rattle.buffer.specs.Buffer.{networkIn};
-ghost use Rattle.answers.specs.Found.{found, foundBy, AtMost16};
+ghost use Rattle.answers.specs.Found.{found, foundBy, membersOf};
 use amounts::Total;
 use model::SearchAnswer;
 
@@ -23,7 +23,7 @@ pub fn is_line(net: &buffer::Net, line: u64) -> bool
 // The answer to what a search found: how many members the best set has, its total, the visits, and whether the search is spent.
 pub fn found_answer(count: usize, total: Total, visits: u64, spent: bool) -> SearchAnswer
     requires { ⌜ count ≤ 16 ⌝ }
-    ensures { λ r. ⌜ ((best : List ℕ) → foundBy r best ≡ given (found count (total .0) visits spent best)) × AtMost16 r ⌝ }
+    ensures { λ r. ⌜ ((best : List ℕ) → foundBy r best ≡ given (found count (total .0) visits spent best)) × (membersOf r ≤ 16) ⌝ }
 {
     let number = total.number();
     if spent {
@@ -37,6 +37,17 @@ pub fn found_answer(count: usize, total: Total, visits: u64, spent: bool) -> Sea
         members: count,
         total: number,
         visits,
+    }
+}
+
+// How many members an answered set has, none where there is no answer.
+pub fn members_of(answer: SearchAnswer) -> usize
+    ensures { λ r. ⌜ r ≡ membersOf answer ⌝ }
+{
+    match answer {
+        SearchAnswer::Refused { .. } => 0,
+        SearchAnswer::Finished { members, .. } => members,
+        SearchAnswer::Spent { members, .. } => members,
     }
 }
 

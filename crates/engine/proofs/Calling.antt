@@ -16,7 +16,7 @@ use Rattle.model.specs.Network.{Network}
 use Rattle.model.specs.Demand.{Answered}
 use Rattle.theory.specs.Best.{accepted-is, search-answered}
 use Rattle.engine.proofs.Lending.{lent-short, lent-enough}
-use Rattle.answers.specs.Found.{fileFound, foundBy, AtMost16}
+use Rattle.answers.specs.Found.{fileFound, foundBy, membersOf}
 
 module _ (file buffer : List ℕ) where
   -- the three claims of an answer and the buffer that it leaves
@@ -41,10 +41,6 @@ module _ (file buffer : List ℕ) where
     searched-is : fileFound file ≡ searched file buffer
     unfolding searched
     searched-is = sym (lent-enough 16 buffer (fileFound file) h)
-
-    pub file-refused : (n i : ℕ) (best : List ℕ) → foundBy (SearchAnswer.Refused n i) best ≡ fileFound file → Claims (SearchAnswer.Refused n i) buffer
-    unfolding foundBy
-    file-refused n i best e = from-refused n i (e ∙ searched-is)
 
     module _ (m t v : ℕ) (spent : Bool) (best after : List ℕ) (few : m ≤ 16) (long : length best ≡ 16) (put : after ≡ take m best ++ drop m buffer) where
       abbrev found : Found
@@ -78,12 +74,12 @@ module _ (file buffer : List ℕ) where
             subst (λ S. Answered N (not spent) S t v) (sym kept)
             (subst (λ (f : Found). Answered N (not (f .spent)) (f .members) (f .best) (f .visits)) (same N a) (search-answered N (accepted-is file N a)))
 
-    pub file-finished : (m t v : ℕ) (best after : List ℕ) → AtMost16 (SearchAnswer.Finished m t v) → length best ≡ 16 → after ≡ take m best ++ drop m buffer
-        → foundBy (SearchAnswer.Finished m t v) best ≡ fileFound file → Claims (SearchAnswer.Finished m t v) after
-    unfolding foundBy AtMost16 searchSays Demand3 Answers
-    file-finished m t v best after few long put e = (says m t v false best after few long put e, (left m t v false best after few long put e, demanded m t v false best after few long put e))
-
-    pub file-spent : (m t v : ℕ) (best after : List ℕ) → AtMost16 (SearchAnswer.Spent m t v) → length best ≡ 16 → after ≡ take m best ++ drop m buffer
-        → foundBy (SearchAnswer.Spent m t v) best ≡ fileFound file → Claims (SearchAnswer.Spent m t v) after
-    unfolding foundBy AtMost16 searchSays Demand3 Answers
-    file-spent m t v best after few long put e = (says m t v true best after few long put e, (left m t v true best after few long put e, demanded m t v true best after few long put e))
+    -- the members are written over the start of the buffer
+    pub file-answered : (a : SearchAnswer) (best after : List ℕ) → membersOf a ≤ 16 → length best ≡ 16 → after ≡ take (membersOf a) best ++ drop (membersOf a) buffer
+        → foundBy a best ≡ fileFound file → Claims a after
+    unfolding foundBy searchSays Demand3 Answers
+    file-answered (SearchAnswer.Refused n i) best after few long put e = subst (Claims (SearchAnswer.Refused n i)) (sym put) (from-refused n i (e ∙ searched-is))
+    file-answered (SearchAnswer.Finished m t v) best after few long put e =
+        (says m t v false best after few long put e, (left m t v false best after few long put e, demanded m t v false best after few long put e))
+    file-answered (SearchAnswer.Spent m t v) best after few long put e =
+        (says m t v true best after few long put e, (left m t v true best after few long put e, demanded m t v true best after few long put e))

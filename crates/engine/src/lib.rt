@@ -12,7 +12,7 @@ ghost use Rattle.model.specs.Segments.{breakerEnds, segmentTable, BreakerByBrea
 ghost use Rattle.tree.specs.Linked.{Linked};
 ghost use Rattle.paths.specs.Held.{HoldsTrips};
 ghost use Rattle.loading.specs.Loading.{Prepared};
-ghost use Rattle.answers.specs.Found.{fileFound, foundBy, AtMost16};
+ghost use Rattle.answers.specs.Found.{fileFound, foundBy, membersOf};
 use model::CheckAnswer;
 use model::ImpactAnswer;
 use model::ReportAnswer;
@@ -24,14 +24,14 @@ use model::TotalAnswer;
 pub fn check(file: &[u8]) -> CheckAnswer
     ensures { λ r. ⌜ checkSays r ≡ checked (now (file .entry)) ⌝ }
 {
-    let mut net = loading::net_space();
-    let mut chains = loading::stations_space();
-    let mut nexts = loading::nexts_space();
-    let mut sides = paths::lines_space();
-    let mut feeders = paths::lines_space();
-    let mut order = paths::lines_space();
-    let mut trips = paths::lines_space();
-    let mut counts = paths::lines_space();
+    let mut net = buffer::space();
+    let mut chains = tree::stations_space();
+    let mut nexts = tree::ends_space();
+    let mut sides = tree::lines_space();
+    let mut feeders = tree::lines_space();
+    let mut order = tree::lines_space();
+    let mut trips = tree::lines_space();
+    let mut counts = tree::lines_space();
     loading::load(
         file,
         &mut net,
@@ -49,8 +49,8 @@ pub fn check(file: &[u8]) -> CheckAnswer
 pub fn impact(file: &[u8], line: u64) -> ImpactAnswer
     ensures { λ r. ⌜ impactSays r ≡ impactAnswered (now (file .entry)) line ⌝ }
 {
-    let mut net = loading::net_space();
-    let mut impacts = paths::lines_space();
+    let mut net = buffer::space();
+    let mut impacts = tree::lines_space();
     match loading::load_impacts(file, &mut net, &mut impacts) {
         CheckAnswer::Refused { number, record } => ImpactAnswer::Refused { number, record },
         CheckAnswer::Accepted => {
@@ -70,8 +70,8 @@ pub fn impact(file: &[u8], line: u64) -> ImpactAnswer
 pub fn total(file: &[u8]) -> TotalAnswer
     ensures { λ r. ⌜ totalSays r ≡ totalled (now (file .entry)) ⌝ }
 {
-    let mut net = loading::net_space();
-    let mut impacts = paths::lines_space();
+    let mut net = buffer::space();
+    let mut impacts = tree::lines_space();
     match loading::load_impacts(file, &mut net, &mut impacts) {
         CheckAnswer::Refused { number, record } => TotalAnswer::Refused { number, record },
         CheckAnswer::Accepted => {
@@ -85,17 +85,17 @@ pub fn total(file: &[u8]) -> TotalAnswer
 // Reads, checks and searches a file. Where it is accepted, the best set's places are left at the start of `best`.
 fn load_search(file: &[u8], best: &mut [u64; 16]) -> SearchAnswer
     requires { ⌜ length (now best) ≡ 16 ⌝ }
-    ensures { λ r. ⌜ (foundBy r (now (best .exit)) ≡ fileFound (now (file .entry))) × AtMost16 r
+    ensures { λ r. ⌜ (foundBy r (now (best .exit)) ≡ fileFound (now (file .entry))) × (membersOf r ≤ 16)
         × (length (now (best .exit)) ≡ 16) ⌝ }
 {
-    let mut net = loading::net_space();
-    let mut chains = loading::stations_space();
-    let mut nexts = loading::nexts_space();
-    let mut sides = paths::lines_space();
-    let mut feeders = paths::lines_space();
-    let mut order = paths::lines_space();
-    let mut trips = paths::lines_space();
-    let mut counts = paths::lines_space();
+    let mut net = buffer::space();
+    let mut chains = tree::stations_space();
+    let mut nexts = tree::ends_space();
+    let mut sides = tree::lines_space();
+    let mut feeders = tree::lines_space();
+    let mut order = tree::lines_space();
+    let mut trips = tree::lines_space();
+    let mut counts = tree::lines_space();
     match loading::load(
         file,
         &mut net,
@@ -139,11 +139,7 @@ pub fn search(file: &[u8], members: &mut [u64]) -> SearchAnswer
     }
     let mut best = [0u64; 16];
     let answer = load_search(file, &mut best);
-    match answer {
-        SearchAnswer::Refused { .. } => {}
-        SearchAnswer::Finished { members: count, .. } => lists::put_numbers(&best, count, members),
-        SearchAnswer::Spent { members: count, .. } => lists::put_numbers(&best, count, members),
-    }
+    lists::put_numbers(&best, answers::members_of(answer), members);
     answer
 }
 
@@ -165,9 +161,9 @@ fn report_network(
         × (now (text .exit) ≡ reportText (networkIn (now (net .entry)))
         ++ drop (length (reportText (networkIn (now (net .entry))))) (now (text .entry))) ⌝ }
 {
-    let mut sums = paths::lines_space();
+    let mut sums = tree::lines_space();
     outage::customers_behind(net, chains, nexts, &mut sums);
-    let mut impacts = paths::lines_space();
+    let mut impacts = tree::lines_space();
     outage::impacts(net, trips, &sums, &mut impacts);
     let total = outage::total_of(net, &impacts);
     let mut best = [0u64; 16];
@@ -196,14 +192,14 @@ pub fn report(file: &[u8], text: &mut [u8]) -> ReportAnswer
             record: 0,
         };
     }
-    let mut net = loading::net_space();
-    let mut chains = loading::stations_space();
-    let mut nexts = loading::nexts_space();
-    let mut sides = paths::lines_space();
-    let mut feeders = paths::lines_space();
-    let mut order = paths::lines_space();
-    let mut trips = paths::lines_space();
-    let mut counts = paths::lines_space();
+    let mut net = buffer::space();
+    let mut chains = tree::stations_space();
+    let mut nexts = tree::ends_space();
+    let mut sides = tree::lines_space();
+    let mut feeders = tree::lines_space();
+    let mut order = tree::lines_space();
+    let mut trips = tree::lines_space();
+    let mut counts = tree::lines_space();
     match loading::load(
         file,
         &mut net,
@@ -247,7 +243,7 @@ fn table_network(
         × (now (table .exit) ≡ segmentTable (networkIn (now (net .entry)))
         ++ drop (length (segmentTable (networkIn (now (net .entry))))) (now (table .entry))) ⌝ }
 {
-    let mut sums = paths::lines_space();
+    let mut sums = tree::lines_space();
     outage::customers_behind(net, chains, nexts, &mut sums);
     segments::write_table(net, trips, &sums, table)
 }
@@ -264,14 +260,14 @@ pub fn segments(file: &[u8], table: &mut [u64]) -> SegmentsAnswer
             record: 0,
         };
     }
-    let mut net = loading::net_space();
-    let mut chains = loading::stations_space();
-    let mut nexts = loading::nexts_space();
-    let mut sides = paths::lines_space();
-    let mut feeders = paths::lines_space();
-    let mut order = paths::lines_space();
-    let mut trips = paths::lines_space();
-    let mut counts = paths::lines_space();
+    let mut net = buffer::space();
+    let mut chains = tree::stations_space();
+    let mut nexts = tree::ends_space();
+    let mut sides = tree::lines_space();
+    let mut feeders = tree::lines_space();
+    let mut order = tree::lines_space();
+    let mut trips = tree::lines_space();
+    let mut counts = tree::lines_space();
     match loading::load(
         file,
         &mut net,

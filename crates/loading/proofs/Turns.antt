@@ -13,7 +13,7 @@ use Rattle.model.specs.Paths.{stationNumbers, lineNumbers}
 use Rattle.model.specs.Rules.{bothOpen, unprotected, somePathReturns, someJoined, isSupplied, seriesBroken, unless, unlessSome, stationRecord, lineRecord, radial}
 use Rattle.theory.specs.Reading.{Read}
 use Rattle.theory.specs.Radial.{Rules}
-use Rattle.radial.specs.First.{first-zero}
+use Rattle.end_rules.specs.First.{first-zero}
 use Rattle.model.specs.declared.CheckAnswer.{CheckAnswer}
 use Rattle.buffer.specs.Buffer.{networkIn}
 use Rattle.loading.specs.Loading.{forest, before, loaded, radial-is}

@@ -37,21 +37,21 @@ fn forest_rules(net: &buffer::Net) -> CheckAnswer
     ensures { λ r. ⌜ ((next : Answer Network) → before r next ≡ forest (networkIn (now (net .entry))) next) ⌝ }
     ensures { λ r. ⌜ (r ≡ CheckAnswer.Accepted → Rules (networkIn (now (net .entry)))) ⌝ }
 {
-    let open = radial::open_line(net);
+    let open = end_rules::open_line(net);
     if open != 0 {
         return CheckAnswer::Refused {
             number: 4,
             record: line_record(net, open),
         };
     }
-    let plain = radial::plain_at_hv(net);
+    let plain = end_rules::plain_at_hv(net);
     if plain != 0 {
         return CheckAnswer::Refused {
             number: 5,
             record: line_record(net, plain),
         };
     }
-    let mut labels = stations_space();
+    let mut labels = tree::stations_space();
     if radial::path_returns(net, &mut labels) {
         return CheckAnswer::Refused {
             number: 6,
@@ -72,11 +72,6 @@ fn forest_rules(net: &buffer::Net) -> CheckAnswer
         };
     }
     CheckAnswer::Accepted
-}
-
-// Room for a number of each station.
-pub fn stations_space() -> [u64; 512] {
-    [0; 512]
 }
 
 // The rules 4 to 9 in turn. Where they hold, the lists of the closed ends at each station, the lines from the HV stations outwards,
@@ -105,8 +100,8 @@ fn rules(
     }
     tree::link_ends(net, chains, nexts);
     tree::outwards(net, chains, nexts, sides, feeders, order);
-    paths::fill_breakers(net, sides, feeders, order, trips, counts);
-    if paths::over_series(net, sides, counts) {
+    paths::fill_trips(net, sides, feeders, order, trips, counts);
+    if series::over_series(net, sides, counts) {
         return CheckAnswer::Refused {
             number: 9,
             record: 0,
@@ -149,7 +144,7 @@ fn line_impacts(
         × HoldsTrips (networkIn (now net)) (now trips) ⌝ }
     ensures { λ r. ⌜ HoldsImpacts (networkIn (now (net .entry))) (now (out .exit)) ⌝ }
 {
-    let mut sums = paths::lines_space();
+    let mut sums = tree::lines_space();
     outage::customers_behind(net, chains, nexts, &mut sums);
     outage::impacts(net, trips, &sums, out);
 }
@@ -159,13 +154,13 @@ pub fn load_impacts(file: &[u8], net: &mut buffer::Net, out: &mut [u64; 768]) ->
     ensures { λ r. ⌜ loaded r (now (net .exit)) ≡ accepted (now (file .entry)) ⌝ }
     ensures { λ r. ⌜ (r ≡ CheckAnswer.Accepted → HoldsImpacts (networkIn (now (net .exit))) (now (out .exit))) ⌝ }
 {
-    let mut chains = stations_space();
-    let mut nexts = nexts_space();
-    let mut sides = paths::lines_space();
-    let mut feeders = paths::lines_space();
-    let mut order = paths::lines_space();
-    let mut trips = paths::lines_space();
-    let mut counts = paths::lines_space();
+    let mut chains = tree::stations_space();
+    let mut nexts = tree::ends_space();
+    let mut sides = tree::lines_space();
+    let mut feeders = tree::lines_space();
+    let mut order = tree::lines_space();
+    let mut trips = tree::lines_space();
+    let mut counts = tree::lines_space();
     match load(
         file,
         net,
@@ -183,14 +178,4 @@ pub fn load_impacts(file: &[u8], net: &mut buffer::Net, out: &mut [u64; 768]) ->
             CheckAnswer::Accepted
         }
     }
-}
-
-// Room for a network.
-pub fn net_space() -> buffer::Net {
-    [0; buffer::SIZE]
-}
-
-// Room for a number of each end.
-pub fn nexts_space() -> [u64; 1536] {
-    [0; 1536]
 }

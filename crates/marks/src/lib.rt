@@ -40,11 +40,11 @@ pub fn fill_ends(net: &buffer::Net, ends: &mut [u64; 65])
     }
 }
 
-// No end has a mark.
-fn no_marks(marks: &mut [u64; 1537])
-    ensures { λ r. ⌜ ((k : ℕ) → getD (now (marks .exit)) k 0 ≡ 0) × (length (now (marks .exit)) ≡ 1537) ⌝ }
+// Every end has 0.
+pub fn clear(ends: &mut [u64; 1537])
+    ensures { λ r. ⌜ ((k : ℕ) → getD (now (ends .exit)) k 0 ≡ 0) × (length (now (ends .exit)) ≡ 1537) ⌝ }
 {
-    *marks = [0; 1537];
+    *ends = [0; 1537];
 }
 
 // Whether a number is a place's: the first place is 1.
@@ -59,7 +59,7 @@ pub fn fill_places(net: &buffer::Net, marks: &mut [u64; 1537])
     requires { ⌜ Read (networkIn (now net)) ⌝ }
     ensures { λ r. ⌜ HoldsPlaces (networkIn (now (net .entry))) (now (marks .exit)) ⌝ }
 {
-    no_marks(marks);
+    clear(marks);
     let mut place = buffer::place_count(net);
     while is_place(place) {
         marks[end_of(net, place)] = place as u64;
@@ -84,7 +84,7 @@ pub fn fill_breakers(net: &buffer::Net, marks: &mut [u64; 1537])
     requires { ⌜ Read (networkIn (now net)) ⌝ }
     ensures { λ r. ⌜ HoldsBreakers (networkIn (now (net .entry))) (now (marks .exit)) ⌝ }
 {
-    no_marks(marks);
+    clear(marks);
     for code in 1..2 * buffer::line_count(net) + 1 {
         marks[code] = breaker_mark(net, code);
     }

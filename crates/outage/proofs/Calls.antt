@@ -1,13 +1,12 @@
 -- A line that we come to by the end of a code, and its far station.
 use Prim.Native.Nat.{ℕ, zero, suc, _+_, _*_, _-_, _/_, _%_, _≤_}
 use mathlib.Core.Path.{_≡_, sym, ap, _∙_, subst}
-use mathlib.Core.Bool.{true≢false}
+use mathlib.Core.Bool.{true, false, true≢false}
 use mathlib.Core.List.{List}
 use native.Mathlib.Omega.{arith}
 use lib.ListN.{length, set}
-use borrow.Author.Tests.{eq-eqb, ne-eqb}
 use Rattle.model.specs.Network.{Network}
-use Rattle.model.specs.Paths.{End, state, stationAt}
+use Rattle.model.specs.Paths.{End, isOpen, stationAt}
 use Rattle.theory.specs.Ends.{closed-end}
 use Rattle.theory.specs.Behind.{far, stationSum, lineSum}
 use Rattle.buffer.specs.Buffer.{networkIn}
@@ -20,15 +19,15 @@ use Rattle.outage.proofs.Filling.{filled-none, filled-line}
 
 -- ── the sum of a line, one level down ──
 module _ (N : Network) (e : End) where
-  open-sum : (k : ℕ) → 1 ≤ k → state N (far e) ≡ 2 → 0 ≡ lineSum N k e
+  open-sum : (k : ℕ) → 1 ≤ k → isOpen N (far e) ≡ true → 0 ≡ lineSum N k e
   unfolding lineSum
   open-sum zero h q = absurd (omega arith)
-  open-sum (suc k) h q = rw (lineSum, eq-eqb (state N (far e)) 2 q)
+  open-sum (suc k) h q = rw (lineSum, q)
 
-  closed-sum : (k : ℕ) → 1 ≤ k → (state N (far e) ≡ 2 → ⊥) → stationSum N (k - 1) (far e) (stationAt N (far e)) ≡ lineSum N k e
+  closed-sum : (k : ℕ) → 1 ≤ k → isOpen N (far e) ≡ false → stationSum N (k - 1) (far e) (stationAt N (far e)) ≡ lineSum N k e
   unfolding lineSum
   closed-sum zero h q = absurd (omega arith)
-  closed-sum (suc k) h q = ap (λ j. stationSum N j (far e) (stationAt N (far e))) {x = suc k - 1} {y = k} (omega arith) ∙ rw (lineSum, ne-eqb (state N (far e)) 2 q)
+  closed-sum (suc k) h q = ap (λ j. stationSum N j (far e) (stationAt N (far e))) {x = suc k - 1} {y = k} (omega arith) ∙ rw (lineSum, q)
 
 module _ (b chains nexts : List ℕ) (y : Ready (networkIn b) chains nexts) (c k : ℕ) (t : AtLine (networkIn b) (codeEnd c) k) where
   pub line-code : (1 ≤ (c + 1) / 2) × ((c + 1) / 2 ≤ length (networkIn b .lines)) × (length (networkIn b .lines) ≤ 768)
@@ -54,9 +53,9 @@ module _ (b chains nexts : List ℕ) (y : Ready (networkIn b) chains nexts) (c k
       let q : 2 - (2 * ((c + 1) / 2) + (1 + c % 2) - 2) % 2 ≡ 3 - (2 - c % 2) = omega (arith, line-code) in
       λ i. record { line = p i; side = q i }
 
-  module _ (s : ℕ) (u : s ≡ stationAt (networkIn b) (endIn ((c + 1) / 2) (1 + c % 2))) (n : state (networkIn b) (endIn ((c + 1) / 2) (1 + c % 2)) ≡ 2 → ⊥) where
-    not-open : state (networkIn b) (far (codeEnd c)) ≡ 2 → ⊥
-    not-open q = n (ap (state (networkIn b)) far-end ∙ q)
+  module _ (s : ℕ) (u : s ≡ stationAt (networkIn b) (endIn ((c + 1) / 2) (1 + c % 2))) (n : isOpen (networkIn b) (endIn ((c + 1) / 2) (1 + c % 2)) ≡ false) where
+    not-open : isOpen (networkIn b) (far (codeEnd c)) ≡ false
+    not-open = ap (λ e. isOpen (networkIn b) e) (sym far-end) ∙ n
 
     at-s : stationAt (networkIn b) (far (codeEnd c)) ≡ s
     at-s = sym (u ∙ ap (stationAt (networkIn b)) far-end)
@@ -65,7 +64,7 @@ module _ (b chains nexts : List ℕ) (y : Ready (networkIn b) chains nexts) (c k
     far-station =
         subst (λ e. AtStation (networkIn b) e s (k - 1)) (sym far-code)
         (subst (λ z. AtStation (networkIn b) (far (codeEnd c)) z (k - 1)) at-s
-        (at-far (networkIn b) (y .read) (y .rules) (codeEnd c) k t (ne-eqb (state (networkIn b) (far (codeEnd c))) 2 not-open)))
+        (at-far (networkIn b) (y .read) (y .rules) (codeEnd c) k t not-open))
 
     module _ (r : ℕ) (e : r ≡ stationSum (networkIn b) (k - 1) (codeEnd (2 * ((c + 1) / 2) + (1 + c % 2) - 2)) s) where
       pub connected-sum : r ≡ lineSum (networkIn b) k (codeEnd c)
@@ -81,12 +80,15 @@ module _ (b chains nexts : List ℕ) (y : Ready (networkIn b) chains nexts) (c k
           filled-line (networkIn b) (y .read) (y .rules) (codeEnd c) k t (Leaves (networkIn b) (codeEnd (2 * ((c + 1) / 2) + (1 + c % 2) - 2)) s) old new r (omega (arith, line-code .2)) connected-sum
           (λ g o l. subst (λ x. Leaves (networkIn b) x s g) (sym far-code) (subst (λ z. Leaves (networkIn b) (far (codeEnd c)) z g) at-s l)) f
 
-  module _ (n : state (networkIn b) (endIn ((c + 1) / 2) (1 + c % 2)) ≡ 2) where
+  module _ (n : isOpen (networkIn b) (endIn ((c + 1) / 2) (1 + c % 2)) ≡ true) where
+    far-open : isOpen (networkIn b) (far (codeEnd c)) ≡ true
+    far-open = ap (λ e. isOpen (networkIn b) e) (sym far-end) ∙ n
+
     pub hanging-sum : 0 ≡ lineSum (networkIn b) k (codeEnd c)
-    hanging-sum = open-sum (networkIn b) (codeEnd c) k line-left (ap (state (networkIn b)) (sym far-end) ∙ n)
+    hanging-sum = open-sum (networkIn b) (codeEnd c) k line-left far-open
 
     pub hanging-filled : (old : List ℕ) → length old ≡ 768 → Filled (networkIn b) (λ d. d ≡ codeEnd c) old (set old ((c + 1) / 2 - 1) 0)
     hanging-filled old h =
         filled-line (networkIn b) (y .read) (y .rules) (codeEnd c) k t (λ g. ⊥) old old 0 (omega (arith, line-code .2)) hanging-sum
-        (λ g o l. true≢false (sym (eq-eqb (state (networkIn b) (far (codeEnd c))) 2 (ap (state (networkIn b)) (sym far-end) ∙ n)) ∙ o))
+        (λ g o l. true≢false (sym far-open ∙ o))
         (filled-none (networkIn b) (λ g. ⊥) old (λ g p. p))

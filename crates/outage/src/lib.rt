@@ -1,15 +1,16 @@
 // The customers behind each line, the impact of a fault on it, the total of the outage amounts and the SAIDI figure.
 // An end has a code: 1 and 2 are the ends of line 1, 3 and 4 those of line 2; 0 is none.
 ghost use mathlib.Core.Path.{_≡_};
-ghost use Prim.Native.Nat.{_+_, _*_, _-_, _/_, _≤_, _<_};
+ghost use Prim.Native.Nat.{_+_, _*_, _-_, _/_, _^_, _≤_, _<_};
 ghost use lib.ListN.{length, getD};
+ghost use Rattle.model.specs.Paths.{isOpen};
 ghost use Rattle.model.specs.Outage.{impact, outageAmount, total as totalOf, figure};
 ghost use Rattle.theory.specs.Reading.{Read};
 ghost use Rattle.theory.specs.Radial.{Rules};
 ghost use Rattle.theory.specs.Sizes.{Sized};
 ghost use Rattle.theory.specs.Behind.{stationSum, lineSum};
 ghost use Rattle.buffer.specs.Buffer.{networkIn};
-ghost use Rattle.buffer.specs.Fits.{LineThere};
+ghost use Rattle.buffer.specs.Fits.{LineThere, EndThere, endIn};
 ghost use Rattle.tree.specs.Linked.{codeEnd, Linked};
 ghost use Rattle.paths.specs.Held.{HoldsTrips};
 ghost use Rattle.outage.specs.Held.{HoldsCustomers, HoldsImpacts};
@@ -17,6 +18,22 @@ ghost use Rattle.outage.specs.Below.{Ready, Leaves, AtLine, AtStation, F
 use amounts::Customers;
 use amounts::Total;
 use amounts::Weight;
+
+// Whether a line hangs: its far end, 1 or 2, is open, and it feeds no station.
+fn hangs(net: &buffer::Net, line: usize, far: usize) -> bool
+    requires { ⌜ EndThere (now net) line far ⌝ }
+    ensures { λ r. ⌜ r ≡ isOpen (networkIn (now (net .entry))) (endIn line far) ⌝ }
+{
+    buffer::is_open(net, line, far)
+}
+
+// The customers of a station and behind some lines that leave it, with those behind one more line.
+fn with_those_behind(sum: u64, behind: u64) -> u64
+    requires { ⌜ sum + behind < 2 ^ 64 ⌝ }
+    ensures { λ r. ⌜ r ≡ sum + behind ⌝ }
+{
+    sum + behind
+}
 
 // The customers behind a station that we come to by an end (0 at an HV station): its own, and those behind each line that
 // leaves it. The customers behind these lines, and behind the lines beyond them, are stored in `sums`.
@@ -39,7 +56,8 @@ fn station_sum(
     let mut end = chains[station - 1] as usize;
     while end != 0 {
         if end != came {
-            sum = sum + line_sum(net, chains, nexts, sums, end, levels - 1);
+            let behind = line_sum(net, chains, nexts, sums, end, levels - 1);
+            sum = with_those_behind(sum, behind);
         }
         end = nexts[end - 1] as usize;
     }
@@ -65,7 +83,7 @@ fn line_sum(
     // the far end
     let side = 1 + entered % 2;
     let mut sum: u64 = 0;
-    if buffer::end_state(net, line, side) != 2 {
+    if !hangs(net, line, side) {
         let station = buffer::end_station(net, line, side);
         sum = station_sum(
             net,

@@ -1,22 +1,19 @@
 -- The marks that a path to the HV station meets: the first, and how many. Each line has them from those of the line that feeds it.
 use Prim.Native.Nat.{ℕ, zero, suc, _+_, _-_, _≤_}
 use mathlib.Core.Path.{_≡_}
-use mathlib.Core.Bool.{true, not}
+use mathlib.Core.Bool.{not}
 use mathlib.Core.List.{List, [], _∷_}
 use lib.Dec.{eqb}
 use lib.ListN.{length, getD}
 use Rattle.model.specs.Network.{Network}
 use Rattle.model.specs.Paths.{End}
-use Rattle.model.specs.Rules.{breakersOn}
-use Rattle.model.specs.Outage.{pathToHV}
 use Rattle.graphs.specs.Sum.{on}
 use Rattle.savings.specs.First.{this}
 use Rattle.theory.specs.Reading.{Read}
 use Rattle.theory.specs.Radial.{Rules}
-use Rattle.theory.specs.Behind.{far, vertices}
+use Rattle.theory.specs.Behind.{far}
 use Rattle.tree.specs.Linked.{endCode}
 use Rattle.tree.specs.Outwards.{nearEnd, feeder}
-use Rattle.sets.specs.InSeries.{most}
 use Rattle.sets.specs.Sets.{route}
 use Rattle.paths.specs.Held.{HoldsSides, HoldsFeeders}
 use Rattle.paths.specs.declared.Met.{Met}
@@ -76,10 +73,6 @@ pub record Known (N : Network) (marks sides feeders firsts counts : List ℕ) (l
   pub above : 1 ≤ feeder N l → Meets marks (route N (feeder N l)) (metIn firsts counts (feeder N l))
   pub firstsLong : length firsts ≡ 768
   pub countsLong : length counts ≡ 768
-
--- the most breakers on the path of a line or a station
-abbrev pub mostInSeries : Network → ℕ
-mostInSeries N = most (λ v. true) (λ v. breakersOn N (pathToHV N v)) (vertices N)
 
 -- the path of the station that a line feeds
 abbrev pub farRoute : Network → ℕ → List End

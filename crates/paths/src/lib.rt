@@ -1,12 +1,11 @@
 // What the path of each line meets on its way to the HV station, by the marks on the ends: the breaker that trips for the line and
-// how many breakers are on the path; the first place. And the most breakers in series. An end has a code: 1 and 2 are the ends of
-// line 1, 3 and 4 those of line 2; 0 is none.
+// how many breakers are on the path; the first place. An end has a code: 1 and 2 are the ends of line 1, 3 and 4 those of line 2;
+// 0 is none.
 ghost use mathlib.Core.Path.{_≡_};
 ghost use mathlib.Core.List.{List, _∷_};
-ghost use Prim.Native.Nat.{_+_, _-_, _≤_, max};
+ghost use Prim.Native.Nat.{_+_, _-_, _≤_};
 ghost use lib.ListN.{length, getD};
 ghost use Rattle.model.specs.Paths.{End};
-ghost use Rattle.model.specs.Rules.{breakersOn, seriesBroken};
 ghost use Rattle.theory.specs.Reading.{Read};
 ghost use Rattle.theory.specs.Radial.{Rules};
 ghost use Rattle.theory.specs.Behind.{far};
@@ -17,7 +16,7 @@ ghost use Rattle.tree.specs.Outwards.{Outwards, nearEnd};
 ghost use Rattle.sets.specs.Sets.{route};
 ghost use Rattle.marks.specs.Held.{HoldsPlaces};
 ghost use Rattle.paths.specs.Held.{HoldsSides, HoldsTrips, HoldsCounts, HoldsFirsts};
-ghost use Rattle.paths.specs.Meets.{orElse, markAt, Meets, HoldsMet, pathBeyond, Feeding, Known, mostInSeries, farRoute};
+ghost use Rattle.paths.specs.Meets.{orElse, markAt, Meets, HoldsMet, pathBeyond, Feeding, Known};
 
 // The code of the near end of a line.
 fn near_code(net: &buffer::Net, sides: &[u64; 768], line: usize) -> usize
@@ -125,7 +124,7 @@ fn met_outwards(
 }
 
 // The code of the breaker that trips for each line, and how many breakers are on its path.
-pub fn fill_breakers(
+pub fn fill_trips(
     net: &buffer::Net,
     sides: &[u64; 768],
     feeders: &[u64; 768],
@@ -143,11 +142,6 @@ pub fn fill_breakers(
     met_outwards(net, sides, feeders, order, &breakers, trips, counts);
 }
 
-// Room for a number of each line.
-pub fn lines_space() -> [u64; 768] {
-    [0; 768]
-}
-
 // The first place on the path of each line, by the marks of the places.
 pub fn fill_firsts(
     net: &buffer::Net,
@@ -162,7 +156,7 @@ pub fn fill_firsts(
         × HoldsPlaces (networkIn (now net)) (now places) ⌝ }
     ensures { λ r. ⌜ HoldsFirsts (networkIn (now (net .entry))) (now (firsts .exit)) ⌝ }
 {
-    let mut counts = lines_space();
+    let mut counts = tree::lines_space();
     met_outwards(net, sides, feeders, order, places, firsts, &mut counts);
 }
 
@@ -192,46 +186,4 @@ pub fn first_beyond(
         (getD (now (firsts .entry)) (line - 1) 0) ⌝ }
 {
     first_from(marks, far_code(net, sides, line), firsts[line - 1])
-}
-
-// The breakers on the path of the station that a line feeds: those on the line's, and its far end if that is one.
-pub fn count_beyond(net: &buffer::Net, sides: &[u64; 768], counts: &[u64; 768], line: usize) -> u64
-    requires { ⌜ Read (networkIn (now net)) × Rules (networkIn (now net)) × HoldsSides (networkIn (now net)) (now sides)
-        × HoldsCounts (networkIn (now net)) (now counts) × LineThere (now net) line ⌝ }
-    ensures { λ r. ⌜ r ≡ breakersOn (networkIn (now (net .entry))) (farRoute (networkIn (now (net .entry))) line) ⌝ }
-{
-    if buffer::is_breaker(net, line, 3 - sides[line - 1] as usize) {
-        counts[line - 1] + 1
-    } else {
-        counts[line - 1]
-    }
-}
-
-// The larger of two numbers.
-pub fn larger(a: u64, b: u64) -> u64
-    ensures { λ r. ⌜ r ≡ max a b ⌝ }
-{
-    if a < b { b } else { a }
-}
-
-// The most breakers on a path from an HV station.
-pub fn most_in_series(net: &buffer::Net, sides: &[u64; 768], counts: &[u64; 768]) -> u64
-    requires { ⌜ Read (networkIn (now net)) × Rules (networkIn (now net)) × HoldsSides (networkIn (now net)) (now sides)
-        × HoldsCounts (networkIn (now net)) (now counts) ⌝ }
-    ensures { λ r. ⌜ r ≡ mostInSeries (networkIn (now (net .entry))) ⌝ }
-{
-    let mut most: u64 = 0;
-    for line in 1..buffer::line_count(net) + 1 {
-        most = larger(most, count_beyond(net, sides, counts, line));
-    }
-    most
-}
-
-// Whether a path from an HV station passes more breakers than the series rule allows.
-pub fn over_series(net: &buffer::Net, sides: &[u64; 768], counts: &[u64; 768]) -> bool
-    requires { ⌜ Read (networkIn (now net)) × Rules (networkIn (now net)) × HoldsSides (networkIn (now net)) (now sides)
-        × HoldsCounts (networkIn (now net)) (now counts) ⌝ }
-    ensures { λ r. ⌜ r ≡ seriesBroken (networkIn (now (net .entry))) ⌝ }
-{
-    buffer::series(net) < most_in_series(net, sides, counts)
 }

@@ -77,8 +77,8 @@ module _ (M N : Network) (s : Same M N) where
   in-both : {l : ℕ} → l ≤ length (M .lines) → l ≤ length (N .lines)
   in-both h = omega (arith, s .lineCount)
 
-  outwards-same : {near feeders order : List ℕ} → Outwards N near feeders order → Outwards M near feeders order
-  outwards-same {near} {feeders} {order} o = record {
+  outwards-same : {sides feeders order : List ℕ} → Outwards N sides feeders order → Outwards M sides feeders order
+  outwards-same {sides} {feeders} {order} o = record {
     nears = λ l a b. o .nears l a (in-both b) ∙ ap (λ e. e .side) (sym (nearEnd-same l));
     feeds = λ l a b. o .feeds l a (in-both b) ∙ sym (feeder-same l);
     listed = λ l a b. let x = o .listed l a (in-both b) in (x .0, omega (arith, x .1, s .lineCount), x .2);
@@ -100,7 +100,7 @@ module _ (N : Network) (a : Accepted N) (S : List ℕ) (s : Sublistᴰ S (placeN
   pub rules-still : Rules (networkIn b)
   rules-still = subst Rules (sym e) (with-rules N (a .read) (a .rules) S (set-valid N a s))
 
-  pub outwards-still : {near feeders order : List ℕ} → Outwards N near feeders order → Outwards (networkIn b) near feeders order
+  pub outwards-still : {sides feeders order : List ℕ} → Outwards N sides feeders order → Outwards (networkIn b) sides feeders order
   outwards-still = outwards-same (networkIn b) N same
 
   pub customers-still : (sums : List ℕ) → HoldsCustomers N sums → HoldsCustomers (networkIn b) sums

@@ -69,7 +69,7 @@ fn prepare(
         × (length (now (outlook .exit)) ≡ 195) ⌝ }
 {
     let mut places = marks::space();
-    let mut firsts = paths::lines_space();
+    let mut firsts = tree::lines_space();
     marks::fill_ends(net, ends);
     marks::fill_places(net, &mut places);
     paths::fill_firsts(net, sides, feeders, order, &places, &mut firsts);
@@ -197,10 +197,10 @@ fn total_with(
 {
     let mut changed = *net;
     add_breakers(&mut changed, set, count);
-    let mut trips = paths::lines_space();
-    let mut counts = paths::lines_space();
-    paths::fill_breakers(&changed, sides, feeders, order, &mut trips, &mut counts);
-    let mut impacts = paths::lines_space();
+    let mut trips = tree::lines_space();
+    let mut counts = tree::lines_space();
+    paths::fill_trips(&changed, sides, feeders, order, &mut trips, &mut counts);
+    let mut impacts = tree::lines_space();
     outage::impacts(&changed, &trips, sums, &mut impacts);
     outage::total_of(&changed, &impacts)
 }
@@ -250,7 +250,7 @@ pub fn search_network(
     ensures { λ r. ⌜ (planFound r (now (best .exit)) ≡ search (networkIn (now (net .entry)))) × (length (now (best .exit)) ≡ 16)
         × (r .count ≤ 16) ⌝ }
 {
-    let mut sums = paths::lines_space();
+    let mut sums = tree::lines_space();
     outage::customers_behind(net, chains, nexts, &mut sums);
     best_plan(net, sides, feeders, order, trips, counts, &sums, best)
 }

@@ -15,7 +15,7 @@ use Rattle.graphs.specs.Labels.{relabel}
 use Rattle.savings.specs.Facts.{both}
 use Rattle.theory.specs.Reading.{Read}
 use Rattle.theory.specs.Labels.{labelOf, Labelled, labelled-start, labelled-skip, labelled-return, labelled-join, labelled-end}
-use Rattle.radial.specs.First.{first-zero}
+use Rattle.end_rules.specs.First.{first-zero}
 use Rattle.radial.specs.Stations.{few-stations}
 
 pub record Running (N : Network) (line : ℕ) (labels : List ℕ) : Type 0 where

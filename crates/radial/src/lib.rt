@@ -1,87 +1,17 @@
-// The radial rules 4 to 8, decided on the buffer in which a network stands (crate `buffer`).
+// The radial rules 6 to 8, by labels: stations have one label where a path joins them.
 ghost use mathlib.Core.Path.{_≡_};
 ghost use mathlib.Core.Bool.{false, not, _&&_};
 ghost use Prim.Native.Nat.{ℕ, _+_, _≤_, _<_};
 ghost use lib.ListN.{length, getD};
 ghost use Rattle.model.specs.Lists.{firstOr};
-ghost use Rattle.model.specs.Paths.{end1, end2, isOpen, stationAt, stationNumbers, lineNumbers};
-ghost use Rattle.model.specs.Rules.{bothOpen, plainAtHV, unprotected, somePathReturns, someJoined, isSupplied};
+ghost use Rattle.model.specs.Paths.{end1, end2, isOpen, stationNumbers, lineNumbers};
+ghost use Rattle.model.specs.Rules.{bothOpen, somePathReturns, someJoined, isSupplied};
 ghost use Rattle.graphs.specs.Labels.{relabel};
 ghost use Rattle.theory.specs.Reading.{Read};
 ghost use Rattle.theory.specs.Labels.{labelOf, Labelled};
 ghost use Rattle.buffer.specs.Buffer.{networkIn};
-ghost use Rattle.buffer.specs.Fits.{StationThere, LineThere, EndThere, endIn};
+ghost use Rattle.buffer.specs.Fits.{LineThere};
 ghost use Rattle.radial.specs.Stations.{Marked};
-
-// Whether an end, 1 or 2, of a line is open.
-fn is_open(net: &buffer::Net, line: usize, side: usize) -> bool
-    requires { ⌜ EndThere (now net) line side ⌝ }
-    ensures { λ r. ⌜ r ≡ isOpen (networkIn (now (net .entry))) (endIn line side) ⌝ }
-{
-    buffer::end_state(net, line, side) == 2
-}
-
-// Whether both ends of a line are open.
-fn both_open(net: &buffer::Net, line: usize) -> bool
-    requires { ⌜ LineThere (now net) line ⌝ }
-    ensures { λ r. ⌜ r ≡ bothOpen (networkIn (now (net .entry))) line ⌝ }
-{
-    is_open(net, line, 1) && is_open(net, line, 2)
-}
-
-// Rule 4: the first line with both ends open, or 0.
-pub fn open_line(net: &buffer::Net) -> u64
-    requires { ⌜ Read (networkIn (now net)) ⌝ }
-    ensures { λ r. ⌜ r ≡ firstOr 0 (bothOpen (networkIn (now (net .entry)))) (lineNumbers (networkIn (now (net .entry)))) ⌝ }
-{
-    for line in 1..buffer::line_count(net) + 1 {
-        if both_open(net, line) {
-            return line as u64;
-        }
-    }
-    0
-}
-
-// The station that an end, 1 or 2, of a line is at.
-fn station_of(net: &buffer::Net, line: usize, side: usize) -> usize
-    requires { ⌜ Read (networkIn (now net)) ⌝ }
-    requires { ⌜ EndThere (now net) line side ⌝ }
-    ensures { λ r. ⌜ r ≡ stationAt (networkIn (now (net .entry))) (endIn line side) ⌝ }
-    ensures { λ r. ⌜ StationThere (now (net .entry)) r ⌝ }
-{
-    buffer::end_station(net, line, side)
-}
-
-// Whether an end, 1 or 2, of a line is a plain end at an HV station.
-fn is_plain_at_hv(net: &buffer::Net, line: usize, side: usize) -> bool
-    requires { ⌜ Read (networkIn (now net)) ⌝ }
-    requires { ⌜ EndThere (now net) line side ⌝ }
-    ensures { λ r. ⌜ r ≡ plainAtHV (networkIn (now (net .entry))) (endIn line side) ⌝ }
-{
-    buffer::end_state(net, line, side) == 0 && buffer::is_hv(net, station_of(net, line, side))
-}
-
-// Whether a line has a plain end at an HV station.
-fn is_unprotected(net: &buffer::Net, line: usize) -> bool
-    requires { ⌜ Read (networkIn (now net)) ⌝ }
-    requires { ⌜ LineThere (now net) line ⌝ }
-    ensures { λ r. ⌜ r ≡ unprotected (networkIn (now (net .entry))) line ⌝ }
-{
-    is_plain_at_hv(net, line, 1) || is_plain_at_hv(net, line, 2)
-}
-
-// Rule 5: the first line with a plain end at an HV station, or 0.
-pub fn plain_at_hv(net: &buffer::Net) -> u64
-    requires { ⌜ Read (networkIn (now net)) ⌝ }
-    ensures { λ r. ⌜ r ≡ firstOr 0 (unprotected (networkIn (now (net .entry)))) (lineNumbers (networkIn (now (net .entry)))) ⌝ }
-{
-    for line in 1..buffer::line_count(net) + 1 {
-        if is_unprotected(net, line) {
-            return line as u64;
-        }
-    }
-    0
-}
 
 // Each station's label is its number.
 fn number(labels: &mut [u64; 512])
@@ -113,7 +43,7 @@ fn both_closed(net: &buffer::Net, line: usize) -> bool
     ensures { λ r. ⌜ r ≡ (not (isOpen (networkIn (now (net .entry))) (end1 line))
         && not (isOpen (networkIn (now (net .entry))) (end2 line))) ⌝ }
 {
-    !is_open(net, line, 1) && !is_open(net, line, 2)
+    !buffer::is_open(net, line, 1) && !buffer::is_open(net, line, 2)
 }
 
 // Rule 6: whether a path returns to its start. Where none does, stations have one label where a path joins them.
@@ -127,8 +57,8 @@ pub fn path_returns(net: &buffer::Net, labels: &mut [u64; 512]) -> bool
     number(labels);
     for line in 1..buffer::line_count(net) + 1 {
         if both_closed(net, line) {
-            let x = labels[station_of(net, line, 1) - 1];
-            let y = labels[station_of(net, line, 2) - 1];
+            let x = labels[end_rules::station_of(net, line, 1) - 1];
+            let y = labels[end_rules::station_of(net, line, 2) - 1];
             if x == y {
                 return true;
             }

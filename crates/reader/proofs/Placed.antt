@@ -1,6 +1,6 @@
 -- The order of places, and the rule of places.
-use mathlib.Core.Path.{_≡_, sym, ap}
-use mathlib.Core.Bool.{true, false, _&&_, _||_, and-false, and-eq-true-iff}
+use mathlib.Core.Path.{_≡_, sym}
+use mathlib.Core.Bool.{Bool, true, false, _&&_, _||_, and-false, and-eq-true-iff}
 use mathlib.Core.List.{List}
 use Prim.Native.Nat.{ℕ, _≤_, _<_}
 use lib.Dec.{ltb, eqb}
@@ -29,9 +29,9 @@ module _ (ls : List Line) (n : ℕ) (p q : Place) where
   unfolding wellPlaced
   out-of-order e = rw (e, and-false (ltb n 64), wellPlaced)
 
-  pub by-state : n < 64 → comesAfter p q ≡ true → (x : ℕ) → x ≡ stateAt (numbered noLine ls (q .line)) (q .side) → eqb x 0 ≡ wellPlaced ls n p q
+  pub by-state : n < 64 → comesAfter p q ≡ true → (x : Bool) → x ≡ eqb (stateAt (numbered noLine ls (q .line)) (q .side)) 0 → x ≡ wellPlaced ls n p q
   unfolding wellPlaced
-  by-state h e x k = rw (lt-ltb n 64 h, e, wellPlaced) (ap (λ (y : ℕ). eqb y 0) k)
+  by-state h e x k = rw (lt-ltb n 64 h, e, wellPlaced) k
 
   pub not-65th : true ≡ wellPlaced ls n p q → n < 64
   unfolding wellPlaced

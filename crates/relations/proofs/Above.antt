@@ -8,7 +8,7 @@ use native.Mathlib.Decide.{ℕ-discrete}
 use native.Mathlib.Omega.{arith}
 use lib.Dec.{eqb}
 use lib.ListN.{length, getD}
-use borrow.Author.Tests.{eq-eqb, ne-eqb}
+use borrow.Author.Tests.{eq-eqb, ne-eqb, eqb-true, eqb-false}
 use Rattle.model.specs.Lists.{any, firstOr}
 use Rattle.model.specs.Network.{Network}
 use Rattle.model.specs.Paths.{line, End, sameEnd}
@@ -90,30 +90,30 @@ module _ (N : Network) (a : Accepted N) where
   place-end p l s e f = λ k. placeOn N (firstPlace (placeEnds N) (onward N (record { line = e k; side = f k })))
 
   -- ── the first place on the path onward from an end, by the buffers ──
-  module _ (near feeders marks firsts : List ℕ) (f : HoldsFeeders N near feeders) (m : HoldsPlaces N marks) (h : HoldsFirsts N firsts) (l s : ℕ) (u : 1 ≤ l) (v : l ≤ length (N .lines)) where
-    near-is : getD near (l - 1) 0 ≡ nearEnd N l .side
+  module _ (sides feeders marks firsts : List ℕ) (f : HoldsFeeders N sides feeders) (m : HoldsPlaces N marks) (h : HoldsFirsts N firsts) (l s : ℕ) (u : 1 ≤ l) (v : l ≤ length (N .lines)) where
+    near-is : getD sides (l - 1) 0 ≡ nearEnd N l .side
     near-is = f .nears l u v
 
     path-first : onward N (endIn l s) ≡ this (sameEnd (nearEnd N l) (endIn l s)) (pathBeyond N (feeder N l)) (nearEnd N l ∷ pathBeyond N (feeder N l))
     path-first = onward-first N (endIn l s) (nearEnd N l) (pathBeyond N (feeder N l)) (route-is N (a .read) (a .rules) l u v)
 
     -- the end is the far end
-    pub above-far : s ≢ getD near (l - 1) 0 → getD firsts (l - 1) 0 ≡ placeOn N (firstPlace (placeEnds N) (onward N (endIn l s)))
+    pub above-far : eqb s (getD sides (l - 1) 0) ≡ false → getD firsts (l - 1) 0 ≡ placeOn N (firstPlace (placeEnds N) (onward N (endIn l s)))
     above-far d =
         h l u v
         ∙ ap (λ es. placeOn N (firstPlace (placeEnds N) es))
         (sym (path-first ∙ ap (λ b. this b (pathBeyond N (feeder N l)) (nearEnd N l ∷ pathBeyond N (feeder N l))) (other (sameEnd (nearEnd N l) (endIn l s)) refl) ∙ route-is N (a .read) (a .rules) l u v))
       where
         other : (b : Bool) → sameEnd (nearEnd N l) (endIn l s) ≡ b → b ≡ false
-        other true e = absurd (d (sym (near-is ∙ ap (λ (x : End). x .side) (sameEnd-eq (nearEnd N l) (endIn l s) e))))
+        other true e = absurd (eqb-false s (getD sides (l - 1) 0) d (sym (near-is ∙ ap (λ (x : End). x .side) (sameEnd-eq (nearEnd N l) (endIn l s) e))))
         other false e = refl
 
     -- the end is the near end
-    module _ (e : s ≡ getD near (l - 1) 0) where
+    module _ (e : eqb s (getD sides (l - 1) 0) ≡ true) where
       near-path : onward N (endIn l s) ≡ pathBeyond N (getD feeders (l - 1) 0)
       near-path =
           path-first
-          ∙ ap (λ b. this b (pathBeyond N (feeder N l)) (nearEnd N l ∷ pathBeyond N (feeder N l))) (λ k. eq-eqb (nearEnd N l .line) l (near-own N (a .read) (a .rules) l u v .0) k && eq-eqb (nearEnd N l .side) s (sym (e ∙ near-is)) k)
+          ∙ ap (λ b. this b (pathBeyond N (feeder N l)) (nearEnd N l ∷ pathBeyond N (feeder N l))) (λ k. eq-eqb (nearEnd N l .line) l (near-own N (a .read) (a .rules) l u v .0) k && eq-eqb (nearEnd N l .side) s (sym (eqb-true s (getD sides (l - 1) 0) e ∙ near-is)) k)
           ∙ ap (pathBeyond N) (sym (f .feeds l u v))
 
       pub above-hv : getD feeders (l - 1) 0 ≡ 0 → 0 ≡ placeOn N (firstPlace (placeEnds N) (onward N (endIn l s)))

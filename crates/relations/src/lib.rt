@@ -1,5 +1,7 @@
 // How the places stand to each other, and lists of the later places that each place is related to.
 ghost use mathlib.Core.Path.{_≡_};
+ghost use mathlib.Core.Bool.{not};
+ghost use lib.Dec.{eqb};
 ghost use lib.ListN.{length, getD};
 ghost use Rattle.theory.specs.Best.{Accepted};
 ghost use Rattle.buffer.specs.Buffer.{networkIn};
@@ -7,8 +9,16 @@ ghost use Rattle.relations.specs.Related.{HoldsRelations};
 ghost use Rattle.marks.specs.Held.{HoldsPlaces};
 ghost use Rattle.paths.specs.Held.{HoldsFeeders, HoldsFirsts};
 ghost use Rattle.relations.specs.Lists.{HoldsLists, many, Listed, SameUpTo};
-ghost use Prim.Native.Nat.{ℕ, _+_, _*_, _≤_};
+ghost use Prim.Native.Nat.{ℕ, _+_, _*_, _-_, _≤_};
 ghost use Rattle.relations.specs.Climb.{isAbove, placeAbove, Among, Noted, Kept};
+
+// Whether an end, 1 or 2, of a line is its far end.
+fn is_far(sides: &[u64; 768], line: usize, side: usize) -> bool
+    requires { ⌜ (1 ≤ line) × (line ≤ 768) ⌝ }
+    ensures { λ r. ⌜ r ≡ not (eqb side (getD (now (sides .entry)) (line - 1) 0)) ⌝ }
+{
+    side != sides[line - 1] as usize
+}
 
 // The next place above a place, the first that the path onward from it meets; 0 if there is none.
 fn above_of(
@@ -25,7 +35,7 @@ fn above_of(
     ensures { λ r. ⌜ r ≡ placeAbove (networkIn (now (net .entry))) place ⌝ }
 {
     let line = buffer::place_line(net, place);
-    if buffer::place_side(net, place) != sides[line - 1] as usize {
+    if is_far(sides, line, buffer::place_side(net, place)) {
         return firsts[line - 1] as usize;
     }
     let feeder = feeders[line - 1] as usize;

@@ -2,7 +2,7 @@
 // customers that it cuts off and their outage amount. An end has a code: 1 and 2 are the ends of line 1, 3 and 4 those of line 2.
 ghost use mathlib.Core.Path.{_≡_};
 ghost use mathlib.Core.List.{_∷_};
-ghost use Prim.Native.Nat.{ℕ, _+_, _*_, _-_, _^_, _≤_, _<_};
+ghost use Prim.Native.Nat.{_+_, _*_, _-_, _^_, _≤_, _<_};
 ghost use lib.ListN.{length, getD, drop};
 ghost use Rattle.model.specs.Paths.{isBreaker};
 ghost use Rattle.model.specs.Segments.{breakerEnds, segmentTable};
@@ -15,13 +15,6 @@ ghost use Rattle.text.specs.Over.{over, Written};
 ghost use Rattle.segments.specs.Entries.{HoldsWeights, Summed, entryOf, entriesOf};
 use amounts::Customers;
 use amounts::Weight;
-
-// No breaker has a weight.
-fn no_weights(weights: &mut [u64; 1537])
-    ensures { λ r. ⌜ ((k : ℕ) → getD (now (weights .exit)) k 0 ≡ 0) × (length (now (weights .exit)) ≡ 1537) ⌝ }
-{
-    *weights = [0; 1537];
-}
 
 // The code of the breaker that trips for line i + 1.
 fn trip_code(trips: &[u64; 768], i: usize) -> usize
@@ -36,7 +29,7 @@ fn weights_tripped(net: &buffer::Net, trips: &[u64; 768], weights: &mut [u64; 15
     requires { ⌜ Accepted (networkIn (now net)) × HoldsTrips (networkIn (now net)) (now trips) ⌝ }
     ensures { λ r. ⌜ HoldsWeights (networkIn (now (net .entry))) (now (weights .exit)) ⌝ }
 {
-    no_weights(weights);
+    marks::clear(weights);
     for i in 0..buffer::line_count(net) {
         let code = trip_code(trips, i);
         weights[code] = weights[code] + buffer::weight(net, i + 1);

@@ -5,9 +5,8 @@ use mathlib.Core.Bool.{Bool, true, false}
 use mathlib.Core.List.{List}
 use native.Mathlib.Omega.{arith}
 use lib.ListN.{length, getD}
-use borrow.Author.Tests.{eq-eqb, ne-eqb}
 use Rattle.model.specs.Network.{Network}
-use Rattle.model.specs.Paths.{state, isOpen}
+use Rattle.model.specs.Paths.{isOpen}
 use Rattle.theory.specs.Best.{Accepted}
 use Rattle.buffer.specs.Buffer.{networkIn}
 use Rattle.buffer.specs.Fits.{LineThere, endIn}
@@ -35,8 +34,8 @@ module _ (b sides : List ℕ) (a : Accepted (networkIn b)) (h : HoldsSides (netw
   by-state : (c : Bool) → isOpen N (endIn l side) ≡ c → farPlace N l ≡ elim c as (λ _. ℕ) [ true ↦ 0 | false ↦ place ]
   by-state c e = ap (λ c. elim c as (λ _. ℕ) [ true ↦ 0 | false ↦ place ]) (ap (isOpen N) (sym (far-is b sides (a .read) (a .rules) h l t)) ∙ e)
 
-  pub place-open : state N (endIn l side) ≡ 2 → 0 ≡ farPlace N l
-  place-open s = sym (by-state true (eq-eqb (state N (endIn l side)) 2 s))
+  pub place-open : isOpen N (endIn l side) ≡ true → 0 ≡ farPlace N l
+  place-open s = sym (by-state true s)
 
   pub place-few : (n : ℕ) → n ≡ farPlace N l → n ≤ 64
   place-few n e = omega (arith, e, go (isOpen N (farEnd N l)), a .read .placeCount)
@@ -45,8 +44,8 @@ module _ (b sides : List ℕ) (a : Accepted (networkIn b)) (h : HoldsSides (netw
       go true = omega arith
       go false = on-most N (firstPlace (placeEnds N) (farRoute N l))
 
-  pub place-closed : (marks firsts : List ℕ) → HoldsPlaces N marks → HoldsFirsts N firsts → (r : ℕ) → r ≡ orElse (markAt marks (farEnd N l)) (getD firsts (l - 1) 0) → (state N (endIn l side) ≡ 2 → ⊥)
+  pub place-closed : (marks firsts : List ℕ) → HoldsPlaces N marks → HoldsFirsts N firsts → (r : ℕ) → r ≡ orElse (markAt marks (farEnd N l)) (getD firsts (l - 1) 0) → isOpen N (endIn l side) ≡ false
       → r ≡ farPlace N l
   place-closed marks firsts m f r q s =
       q ∙ first-beyond N (a .read) (a .rules) marks firsts m f l (t .low) (t .high)
-      ∙ sym (by-state false (ne-eqb (state N (endIn l side)) 2 s))
+      ∙ sym (by-state false s)

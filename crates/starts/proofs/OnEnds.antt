@@ -64,12 +64,6 @@ module _ (N : Network) where
   has-place : (e : End) → any (λ p. sameEnd (endAt N p) e) (placeNumbers N) ≡ has e (placeEnds N)
   has-place e = sym (any-map (λ d. sameEnd d e) (λ p. endAt N p) (placeNumbers N))
 
-  pub on-none : (e : End) → placeOn N e ≡ 0 → has e (placeEnds N) ≡ false
-  on-none e h = ⊎-elim (λ x. sym (has-place e) ∙ x .1) (λ x. absurd (omega (arith, in-place (placeOn N e) (x .0) .0))) (on-cases e)
-
-  pub on-some : (e : End) → (placeOn N e ≡ 0 → ⊥) → has e (placeEnds N) ≡ true
-  on-some e h = ⊎-elim (λ x. absurd (h (x .0))) (λ x. sym (has-place e) ∙ any-in (λ p. sameEnd (endAt N p) e) (placeOn N e) (placeNumbers N) (x .0) (x .1)) (on-cases e)
-
   -- it is the place whose end that is
   pub on-is : Accepted N → (p : ℕ) → 1 ≤ p → p ≤ length (N .places) → (e : End) → eqb (placeOn N e) p ≡ sameEnd (endAt N p) e
   on-is a p i j e = go (sameEnd (endAt N p) e) refl (on-cases e)

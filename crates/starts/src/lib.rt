@@ -100,7 +100,7 @@ fn far_place(
         × LineThere (now net) line ⌝ }
     ensures { λ r. ⌜ (r ≡ farPlace (networkIn (now (net .entry))) line) × (r ≤ 64) ⌝ }
 {
-    if buffer::end_state(net, line, 3 - sides[line - 1] as usize) == 2 {
+    if buffer::is_open(net, line, 3 - sides[line - 1] as usize) {
         return 0;
     }
     paths::first_beyond(net, sides, marks, firsts, line) as usize
@@ -123,10 +123,10 @@ fn own_in_series(
     let mut in_series = [0u64; 65];
     for line in 1..buffer::line_count(net) + 1 {
         let first = firsts[line - 1] as usize;
-        in_series[first] = paths::larger(in_series[first], counts[line - 1]);
+        in_series[first] = series::larger(in_series[first], counts[line - 1]);
         let beyond = far_place(net, sides, marks, firsts, line);
-        let count = paths::count_beyond(net, sides, counts, line);
-        in_series[beyond] = paths::larger(in_series[beyond], count);
+        let count = series::count_beyond(net, sides, counts, line);
+        in_series[beyond] = series::larger(in_series[beyond], count);
     }
     in_series
 }
@@ -140,7 +140,7 @@ fn start_in_series(net: &buffer::Net, relations: &[u64; 4225], own: &[u64; 65], 
     let mut in_series: u64 = 0;
     for s in 1..buffer::place_count(net) + 1 {
         if behind(relations, p, s) {
-            in_series = paths::larger(in_series, own[s]);
+            in_series = series::larger(in_series, own[s]);
         }
     }
     in_series

@@ -9,7 +9,7 @@ use borrow.Author.Tests.{eq-eqb, ne-eqb}
 use Rattle.model.specs.Lists.{keep}
 use Rattle.model.specs.Paths.{End}
 use Rattle.tree.specs.Linked.{endCode, codeEnd, Chain, over, link}
-use Rattle.tree.specs.Queue.{leaving, nearAfter, feedAfter, orderAfter, Room, Added}
+use Rattle.tree.specs.Queue.{leaving, sidesAfter, feedAfter, orderAfter, Room, Added}
 
 -- one list begins with one code
 chain-once : {most most' : ℕ} {nexts : List ℕ} {c : ℕ} {es fs : List End} → Chain most nexts c es → Chain most' nexts c fs → es ≡ fs
@@ -39,12 +39,12 @@ codesLeft (suc c) = 1536 - c
 
 module _ (nexts : List ℕ) (first came fed count : ℕ) (near₀ feed₀ order₀ : List ℕ) where
   -- the ends from a code on are left
-  pub record Following (near feeders order : List ℕ) (n code : ℕ) : Type 0 where
+  pub record Following (sides feeders order : List ℕ) (n code : ℕ) : Type 0 where
     pub room : Room nexts first came count
     pub rest : List End
     pub chain : Chain (room .most) nexts code rest
     pub low : code ≤ 1536
-    pub nears : nearAfter near (leaving came rest) ≡ nearAfter near₀ (leaving came (room .ends))
+    pub nears : sidesAfter sides (leaving came rest) ≡ sidesAfter near₀ (leaving came (room .ends))
     pub feeds : feedAfter fed feeders (leaving came rest) ≡ feedAfter fed feed₀ (leaving came (room .ends))
     pub orders : orderAfter order n (leaving came rest) ≡ orderAfter order₀ count (leaving came (room .ends))
     pub counted : n + length (leaving came rest) ≡ count + length (leaving came (room .ends))
@@ -53,19 +53,19 @@ module _ (nexts : List ℕ) (first came fed count : ℕ) (near₀ feed₀ order�
   following-start m = record { room = m; rest = m .ends; chain = m .chain; low = omega (arith, m .small, chain-low (m .chain)); nears = refl; feeds = refl; orders = refl; counted = refl }
 
   -- the list is at its end
-  pub following-end : (near feeders order : List ℕ) (n code : ℕ) → code ≡ 0 → Following near feeders order n code → {most : ℕ} {es : List End} → Chain most nexts first es
-      → Added (leaving came es) fed count near₀ feed₀ order₀ near feeders order n
-  unfolding keep nearAfter feedAfter orderAfter
-  following-end near feeders order n code z f t =
+  pub following-end : (sides feeders order : List ℕ) (n code : ℕ) → code ≡ 0 → Following sides feeders order n code → {most : ℕ} {es : List End} → Chain most nexts first es
+      → Added (leaving came es) fed count near₀ feed₀ order₀ sides feeders order n
+  unfolding keep sidesAfter feedAfter orderAfter
+  following-end sides feeders order n code z f t =
       let k = ap (leaving came) (chain-none (f .chain) z) in
-      subst (λ es. Added (leaving came es) fed count near₀ feed₀ order₀ near feeders order n) (chain-once (f .room .chain) t) (record {
-        nears = ap (nearAfter near) (sym k) ∙ f .nears;
+      subst (λ es. Added (leaving came es) fed count near₀ feed₀ order₀ sides feeders order n) (chain-once (f .room .chain) t) (record {
+        nears = ap (sidesAfter sides) (sym k) ∙ f .nears;
         feeds = ap (feedAfter fed feeders) (sym k) ∙ f .feeds;
         orders = ap (orderAfter order n) (sym k) ∙ f .orders;
         counted = omega (arith, f .counted, ap length k);
       })
 
-  module _ (near feeders order : List ℕ) (n code : ℕ) (here : code ≢ 0) (f : Following near feeders order n code) where
+  module _ (sides feeders order : List ℕ) (n code : ℕ) (here : code ≢ 0) (f : Following sides feeders order n code) where
     -- the next code is above it
     pub following-less : codesLeft (getD nexts (code - 1) 0) < codesLeft code
     unfolding codesLeft
@@ -77,7 +77,7 @@ module _ (nexts : List ℕ) (first came fed count : ℕ) (near₀ feed₀ order�
         less (suc c) (suc m) a b g = omega (arith, g m refl)
 
     -- the end that is not to be followed
-    pub following-skip : code ≡ came → Following near feeders order n (getD nexts (code - 1) 0)
+    pub following-skip : code ≡ came → Following sides feeders order n (getD nexts (code - 1) 0)
     unfolding keep
     following-skip z =
         let x = chain-next (f .chain) here in
@@ -87,7 +87,7 @@ module _ (nexts : List ℕ) (first came fed count : ℕ) (near₀ feed₀ order�
           rest = x .0;
           chain = x .2;
           low = omega (arith, f .room .small, chain-low (x .2));
-          nears = ap (nearAfter near) (sym k) ∙ f .nears;
+          nears = ap (sidesAfter sides) (sym k) ∙ f .nears;
           feeds = ap (feedAfter fed feeders) (sym k) ∙ f .feeds;
           orders = ap (orderAfter order n) (sym k) ∙ f .orders;
           counted = ap (λ es. n + length es) (sym k) ∙ f .counted;
@@ -95,8 +95,8 @@ module _ (nexts : List ℕ) (first came fed count : ℕ) (near₀ feed₀ order�
 
     -- the line of any other is added
     pub following-add : code ≢ came
-        → (n < 768) × Following (set near ((code + 1) / 2 - 1) ((code + 1) % 2 + 1)) (set feeders ((code + 1) / 2 - 1) fed) (set order n ((code + 1) / 2)) (n + 1) (getD nexts (code - 1) 0)
-    unfolding keep nearAfter feedAfter orderAfter
+        → (n < 768) × Following (set sides ((code + 1) / 2 - 1) ((code + 1) % 2 + 1)) (set feeders ((code + 1) / 2 - 1) fed) (set order n ((code + 1) / 2)) (n + 1) (getD nexts (code - 1) 0)
+    unfolding keep sidesAfter feedAfter orderAfter
     following-add z =
         let x = chain-next (f .chain) here in
         let k : leaving came (f .rest) ≡ codeEnd code ∷ leaving came (x .0) = ap (leaving came) (x .1) ∙ rw (ne-eqb (endCode (codeEnd code)) came (λ y. z (omega (arith, x .3))), keep) in
@@ -108,7 +108,7 @@ module _ (nexts : List ℕ) (first came fed count : ℕ) (near₀ feed₀ order�
             rest = x .0;
             chain = x .2;
             low = omega (arith, f .room .small, chain-low (x .2));
-            nears = ap (λ n. nearAfter (set near ((code + 1) / 2 - 1) n) (leaving came (x .0))) e ∙ ap (nearAfter near) (sym k) ∙ f .nears;
+            nears = ap (λ n. sidesAfter (set sides ((code + 1) / 2 - 1) n) (leaving came (x .0))) e ∙ ap (sidesAfter sides) (sym k) ∙ f .nears;
             feeds = ap (feedAfter fed feeders) (sym k) ∙ f .feeds;
             orders = ap (orderAfter order n) (sym k) ∙ f .orders;
             counted = omega (arith, f .counted);

@@ -25,7 +25,7 @@ use Rattle.tree.specs.Queue.{leaving, Room, Added, Laid, Told, Queue, HV
 use Rattle.tree.specs.Feeding.{FarEnd}
 use Rattle.tree.proofs.Near.{near-end, hv-path, far-first}
 use Rattle.tree.proofs.Leaving.{Leaves, leaves-hv, leaves-far}
-use Rattle.tree.proofs.Adding.{near-length, feed-length, order-length, order-after, told-after}
+use Rattle.tree.proofs.Adding.{sides-length, feed-length, order-length, order-after, told-after}
 use Rattle.tree.proofs.Laying.{place-of, at-place, laid-count, laid-same, laid-more, laid-all, laid-full}
 
 -- an element of a list without repeats is none of those before it
@@ -36,9 +36,9 @@ once-place (x ∷ xs) (suc i) h n m =
     ⊎-elim (λ e. Fresh-not x (getD xs i 0) xs (n .0) (at-place xs i (omega arith)) e) (λ k. once-place xs i (omega arith) (n .1) k) (List·Memᴰ·cases-cons m)
 
 module _ (N : Network) (d : Read N) (r : Rules N) where
-  pub queue-start : (near feeders order : List ℕ) → length near ≡ 768 → length feeders ≡ 768 → length order ≡ 768 → Queue N (HVUpTo N 0) near feeders order 0
+  pub queue-start : (sides feeders order : List ℕ) → length sides ≡ 768 → length feeders ≡ 768 → length order ≡ 768 → Queue N (HVUpTo N 0) sides feeders order 0
   unfolding atHV
-  queue-start near feeders order a b c = record {
+  queue-start sides feeders order a b c = record {
     most = omega arith;
     laid = record {
       inside = λ l m. absurd (List·Memᴰ·not-nil m);
@@ -53,9 +53,9 @@ module _ (N : Network) (d : Read N) (r : Rules N) where
     orders = c;
   }
 
-  module _ {Done : ℕ → Type 0} (near feeders order : List ℕ) (n : ℕ) (q : Queue N Done near feeders order n) where
+  module _ {Done : ℕ → Type 0} (sides feeders order : List ℕ) (n : ℕ) (q : Queue N Done sides feeders order n) where
     -- the same stations
-    queue-same : {Done' : ℕ → Type 0} → ((t : ℕ) → Done t → Done' t) → ((t : ℕ) → Done' t → Done t) → Queue N Done' near feeders order n
+    queue-same : {Done' : ℕ → Type 0} → ((t : ℕ) → Done t → Done' t) → ((t : ℕ) → Done' t → Done t) → Queue N Done' sides feeders order n
     queue-same f g = record { most = q .most; laid = laid-same N f g (q .laid); told = q .told; nears = q .nears; feeds = q .feeds; orders = q .orders }
 
     -- the line at a place
@@ -81,7 +81,7 @@ module _ (N : Network) (d : Read N) (r : Rules N) where
       queue-room : (chains nexts : List ℕ) → Linked N chains nexts → In N (station s) → Room nexts (getD chains (s - 1) 0) came n
       queue-room chains nexts k i = record { most = 2 * length (N .lines); small = omega (arith, d .lineCount, d .head .lines .high); ends = endsAt N s; chain = k .lists s (i .0) (i .1); fits = room }
 
-      module _ (near' feed' order' : List ℕ) (n' : ℕ) (a : Added (leaving came (endsAt N s)) fed n near feeders order near' feed' order' n') where
+      module _ (sides' feed' order' : List ℕ) (n' : ℕ) (a : Added (leaving came (endsAt N s)) fed n sides feeders order sides' feed' order' n') where
         -- its lines stand behind those before
         added : take n' order' ≡ take n order ++ map (λ e. e .line) (leaving came (endsAt N s))
         added = ap (λ k. take k order') (a .counted) ∙ ap (take (n + length (leaving came (endsAt N s)))) (a .orders) ∙ order-after order n (leaving came (endsAt N s)) (omega (arith, room, q .orders))
@@ -93,24 +93,24 @@ module _ (N : Network) (d : Read N) (r : Rules N) where
             ∙ take-append-le k (take n order) (map (λ e. e .line) (leaving came (endsAt N s))) (omega (arith, length-take-le n order (omega (arith, q .most, q .orders))))
             ∙ take-take k n order h
 
-        queue-add : {Done' : ℕ → Type 0} → ((t : ℕ) → Done t → Done' t) → Done' s → ((t : ℕ) → Done' t → Done t ⊎ (t ≡ s)) → Queue N Done' near' feed' order' n'
+        queue-add : {Done' : ℕ → Type 0} → ((t : ℕ) → Done t → Done' t) → Done' s → ((t : ℕ) → Done' t → Done t ⊎ (t ≡ s)) → Queue N Done' sides' feed' order' n'
         queue-add {Done'} f here g = record {
           most = omega (arith, a .counted, room);
           laid = subst (Laid N Done') (sym added) (laid-more N d r s (leaving came (endsAt N s)) fed (q .laid) v new known f here g);
-          told = subst (Told N near' feed') (sym added)
+          told = subst (Told N sides' feed') (sym added)
               (rw (a .nears, a .feeds)
-              (told-after N fed near feeders (take n order) (leaving came (endsAt N s)) (λ l m. q .laid .inside l m .0)
+              (told-after N fed sides feeders (take n order) (leaving came (endsAt N s)) (λ l m. q .laid .inside l m .0)
               (λ e m. let i = v .inside e m in (i .0, omega (arith, i .1, q .nears, d .lineCount, d .head .lines .high), omega (arith, i .1, q .feeds, d .lineCount, d .head .lines .high), v .near e m, v .feeds e m))
               (q .told)));
-          nears = ap length (a .nears) ∙ near-length near (leaving came (endsAt N s)) ∙ q .nears;
+          nears = ap length (a .nears) ∙ sides-length sides (leaving came (endsAt N s)) ∙ q .nears;
           feeds = ap length (a .feeds) ∙ feed-length fed feeders (leaving came (endsAt N s)) ∙ q .feeds;
           orders = ap length (a .orders) ∙ order-length order n (leaving came (endsAt N s)) ∙ q .orders;
         }
 
   -- ── the HV stations ──
-  module _ (s : ℕ) (near feeders order : List ℕ) (n : ℕ) (q : Queue N (HVUpTo N s) near feeders order n) where
-    pub hv-skip : isHV N (s + 1) ≡ false → Queue N (HVUpTo N (s + 1)) near feeders order n
-    hv-skip h = queue-same near feeders order n q (λ t x. (x .0, omega (arith, x .1))) (λ t x. (x .0, go t x (ℕ-discrete t (s + 1))))
+  module _ (s : ℕ) (sides feeders order : List ℕ) (n : ℕ) (q : Queue N (HVUpTo N s) sides feeders order n) where
+    pub hv-skip : isHV N (s + 1) ≡ false → Queue N (HVUpTo N (s + 1)) sides feeders order n
+    hv-skip h = queue-same sides feeders order n q (λ t x. (x .0, omega (arith, x .1))) (λ t x. (x .0, go t x (ℕ-discrete t (s + 1))))
       where
         go : (t : ℕ) → HVUpTo N (s + 1) t → Dec (t ≡ s + 1) → t ≤ s
         go t x (yes e) = absurd (true≢false (sym (x .0) ∙ ap (isHV N) e ∙ h))
@@ -125,13 +125,13 @@ module _ (N : Network) (d : Read N) (r : Rules N) where
       hv-room chains nexts k =
           let e : s + 1 - 1 ≡ s = omega arith in
           subst (λ c. Room nexts (getD chains c 0) 0 n) e
-          (queue-room near feeders order n q (s + 1) 0 0 (leaves-hv N d r (s + 1) h) new (λ x. absurd (omega arith)) chains nexts k (root-in N d (station (s + 1)) h))
+          (queue-room sides feeders order n q (s + 1) 0 0 (leaves-hv N d r (s + 1) h) new (λ x. absurd (omega arith)) chains nexts k (root-in N d (station (s + 1)) h))
 
-      pub hv-add : (chains nexts near' feed' order' : List ℕ) (n' : ℕ) → Linked N chains nexts
-          → ((most : ℕ) (es : List End) → Chain most nexts (getD chains s 0) es → Added (leaving 0 es) 0 n near feeders order near' feed' order' n') → Queue N (HVUpTo N (s + 1)) near' feed' order' n'
+      pub hv-add : (chains nexts sides' feed' order' : List ℕ) (n' : ℕ) → Linked N chains nexts
+          → ((most : ℕ) (es : List End) → Chain most nexts (getD chains s 0) es → Added (leaving 0 es) 0 n sides feeders order sides' feed' order' n') → Queue N (HVUpTo N (s + 1)) sides' feed' order' n'
       unfolding atHV
-      hv-add chains nexts near' feed' order' n' k a =
-          queue-add near feeders order n q (s + 1) 0 0 (leaves-hv N d r (s + 1) h) new (λ x. absurd (omega arith)) near' feed' order' n'
+      hv-add chains nexts sides' feed' order' n' k a =
+          queue-add sides feeders order n q (s + 1) 0 0 (leaves-hv N d r (s + 1) h) new (λ x. absurd (omega arith)) sides' feed' order' n'
           (a (2 * length (N .lines)) (endsAt N (s + 1)) chain) (λ t x. (x .0, omega (arith, x .1))) (h, omega arith) (λ t x. go t x (ℕ-discrete t (s + 1)))
         where
           chain : Chain (2 * length (N .lines)) nexts (getD chains s 0) (endsAt N (s + 1))
@@ -145,29 +145,29 @@ module _ (N : Network) (d : Read N) (r : Rules N) where
           go t x (no e) = inl (x .0, omega (arith, x .1))
 
     -- all HV stations
-    pub hv-end : length (N .stations) ≤ s → Queue N (Reached N []) near feeders order n
+    pub hv-end : length (N .stations) ≤ s → Queue N (Reached N []) sides feeders order n
     unfolding atHV
-    hv-end h = queue-same near feeders order n q (λ t x. inl (x .0)) (λ t x. ⊎-elim (λ y. (y, omega (arith, root-in N d (station t) y .1))) (λ y. absurd (List·Memᴰ·not-nil (y .1))) x)
+    hv-end h = queue-same sides feeders order n q (λ t x. inl (x .0)) (λ t x. ⊎-elim (λ y. (y, omega (arith, root-in N d (station t) y .1))) (λ y. absurd (List·Memᴰ·not-nil (y .1))) x)
 
   -- ── the far station of a line ──
-  module _ (i : ℕ) (near feeders order : List ℕ) (n : ℕ) (q : Queue N (Reached N (take i order)) near feeders order n) (h : i < n) where
+  module _ (i : ℕ) (sides feeders order : List ℕ) (n : ℕ) (q : Queue N (Reached N (take i order)) sides feeders order n) (h : i < n) where
     -- the line is one of the file, and its far end has this code
     line-in : In N (line (getD order i 0))
-    line-in = q .laid .inside (getD order i 0) (queue-line near feeders order n q i h)
+    line-in = q .laid .inside (getD order i 0) (queue-line sides feeders order n q i h)
 
-    near-noted : getD near (getD order i 0 - 1) 0 ≡ nearEnd N (getD order i 0) .side
-    near-noted = q .told (getD order i 0) (queue-line near feeders order n q i h) .0
+    near-noted : getD sides (getD order i 0 - 1) 0 ≡ nearEnd N (getD order i 0) .side
+    near-noted = q .told (getD order i 0) (queue-line sides feeders order n q i h) .0
 
-    near-side : (1 ≤ getD near (getD order i 0 - 1) 0) × (getD near (getD order i 0 - 1) 0 ≤ 2)
+    near-side : (1 ≤ getD sides (getD order i 0 - 1) 0) × (getD sides (getD order i 0 - 1) 0 ≤ 2)
     near-side = let x = side-of N (nearEnd N (getD order i 0)) (near-end N d r (getD order i 0) line-in .closed) in (omega (arith, x .0, near-noted), omega (arith, x .1, near-noted))
 
-    pub line-bounds : (1 ≤ getD order i 0) × (getD order i 0 ≤ 768) × (1 ≤ getD near (getD order i 0 - 1) 0) × (getD near (getD order i 0 - 1) 0 ≤ 2)
+    pub line-bounds : (1 ≤ getD order i 0) × (getD order i 0 ≤ 768) × (1 ≤ getD sides (getD order i 0 - 1) 0) × (getD sides (getD order i 0 - 1) 0 ≤ 2)
     line-bounds = (line-in .0, omega (arith, line-in .1, d .lineCount, d .head .lines .high), near-side .0, near-side .1)
 
-    pub far-there : CodeThere N (2 * getD order i 0 + 1 - getD near (getD order i 0 - 1) 0)
+    pub far-there : CodeThere N (2 * getD order i 0 + 1 - getD sides (getD order i 0 - 1) 0)
     far-there = record { read = d; low = omega (arith, line-in .0, near-side .1); high = omega (arith, line-in, near-side) }
 
-    far-coded : (code : ℕ) → code ≡ 2 * getD order i 0 + 1 - getD near (getD order i 0 - 1) 0 → codeEnd code ≡ far (nearEnd N (getD order i 0))
+    far-coded : (code : ℕ) → code ≡ 2 * getD order i 0 + 1 - getD sides (getD order i 0 - 1) 0 → codeEnd code ≡ far (nearEnd N (getD order i 0))
     far-coded code e =
         let p : (code + 1) / 2 ≡ nearEnd N (getD order i 0) .line = omega (arith, near-side, near-end N d r (getD order i 0) line-in .own, line-in .0) in
         let q : 2 - code % 2 ≡ 3 - nearEnd N (getD order i 0) .side = omega (arith, near-side, near-noted, line-in .0) in
@@ -187,8 +187,8 @@ module _ (N : Network) (d : Read N) (r : Rules N) where
         go l c p (inl m) = inl (inr (l, m, c, p))
         go l c p (inr m) = let e = List·Memᴰ·eq-of-singleton m in inr (ap (λ k. isOpen N (far (nearEnd N k))) (sym e) ∙ c, ap (λ k. stationAt N (far (nearEnd N k))) (sym e) ∙ p)
 
-    pub far-skip : (code : ℕ) → code ≡ 2 * getD order i 0 + 1 - getD near (getD order i 0 - 1) 0 → isOpen N (codeEnd code) ≡ true → Queue N (Reached N (take (i + 1) order)) near feeders order n
-    far-skip code e o = queue-same near feeders order n q reached-less (λ t x. ⊎-elim (λ y. y) (λ y. absurd (true≢false (sym o ∙ ap (isOpen N) (far-coded code e) ∙ y .0))) (reached-more t x))
+    pub far-skip : (code : ℕ) → code ≡ 2 * getD order i 0 + 1 - getD sides (getD order i 0 - 1) 0 → isOpen N (codeEnd code) ≡ true → Queue N (Reached N (take (i + 1) order)) sides feeders order n
+    far-skip code e o = queue-same sides feeders order n q reached-less (λ t x. ⊎-elim (λ y. y) (λ y. absurd (true≢false (sym o ∙ ap (isOpen N) (far-coded code e) ∙ y .0))) (reached-more t x))
 
     module _ (f : End) (e : f ≡ far (nearEnd N (getD order i 0))) (c : isOpen N f ≡ false) where
       first : FarEnd N (stationAt N f) f
@@ -223,7 +223,7 @@ module _ (N : Network) (d : Read N) (r : Rules N) where
               before (x ∷ xs) (suc i) m = ⊎-elim (λ e. List·Memᴰ·head e) (λ k. List·Memᴰ·tail (before xs i k)) (List·Memᴰ·cases-cons m)
 
     -- its lines follow
-    module _ (code : ℕ) (e : code ≡ 2 * getD order i 0 + 1 - getD near (getD order i 0 - 1) 0) (c : isOpen N (codeEnd code) ≡ false) (s : ℕ) (p : s ≡ stationAt N (codeEnd code)) where
+    module _ (code : ℕ) (e : code ≡ 2 * getD order i 0 + 1 - getD sides (getD order i 0 - 1) 0) (c : isOpen N (codeEnd code) ≡ false) (s : ℕ) (p : s ≡ stationAt N (codeEnd code)) where
       is-far : codeEnd code ≡ far (nearEnd N (getD order i 0))
       is-far = far-coded code e
 
@@ -241,32 +241,32 @@ module _ (N : Network) (d : Read N) (r : Rules N) where
 
       module _ (chains nexts : List ℕ) (k : Linked N chains nexts) where
         pub far-room : Room nexts (getD chains (s - 1) 0) code n
-        far-room = queue-room near feeders order n q s code (getD order i 0) leaves new-here (λ x. queue-line near feeders order n q i h) chains nexts k station-there
+        far-room = queue-room sides feeders order n q s code (getD order i 0) leaves new-here (λ x. queue-line sides feeders order n q i h) chains nexts k station-there
 
-        pub far-add : (near' feed' order' : List ℕ) (n' : ℕ)
-            → ((most : ℕ) (es : List End) → Chain most nexts (getD chains (s - 1) 0) es → Added (leaving code es) (getD order i 0) n near feeders order near' feed' order' n')
-            → Queue N (Reached N (take (i + 1) order')) near' feed' order' n' × (n ≤ n')
-        far-add near' feed' order' n' a = (
-          subst (λ ls. Queue N (Reached N ls) near' feed' order' n') (sym (queue-kept near feeders order n q s code (getD order i 0) leaves new-here known near' feed' order' n' added (i + 1) (omega arith)))
-              (queue-add near feeders order n q s code (getD order i 0) leaves new-here known near' feed' order' n' added reached-less
+        pub far-add : (sides' feed' order' : List ℕ) (n' : ℕ)
+            → ((most : ℕ) (es : List End) → Chain most nexts (getD chains (s - 1) 0) es → Added (leaving code es) (getD order i 0) n sides feeders order sides' feed' order' n')
+            → Queue N (Reached N (take (i + 1) order')) sides' feed' order' n' × (n ≤ n')
+        far-add sides' feed' order' n' a = (
+          subst (λ ls. Queue N (Reached N ls) sides' feed' order' n') (sym (queue-kept sides feeders order n q s code (getD order i 0) leaves new-here known sides' feed' order' n' added (i + 1) (omega arith)))
+              (queue-add sides feeders order n q s code (getD order i 0) leaves new-here known sides' feed' order' n' added reached-less
               (inr (getD order i 0, rw one-more (Memᴰ·append-right (take i order) (List·Memᴰ·head refl)), ap (isOpen N) (sym is-far) ∙ c, ap (stationAt N) (sym is-far) ∙ sym p))
               (λ t x. ⊎-elim (λ y. inl y) (λ y. inr (sym (y .1) ∙ ap (stationAt N) (sym is-far) ∙ sym p)) (reached-more t x))),
           omega (arith, added .counted),
         )
           where
             known : 1 ≤ getD order i 0 → List·Memᴰ (getD order i 0) (take n order)
-            known x = queue-line near feeders order n q i h
+            known x = queue-line sides feeders order n q i h
 
-            added : Added (leaving code (endsAt N s)) (getD order i 0) n near feeders order near' feed' order' n'
+            added : Added (leaving code (endsAt N s)) (getD order i 0) n sides feeders order sides' feed' order' n'
             added = a (2 * length (N .lines)) (endsAt N s) (k .lists s (station-there .0) (station-there .1))
 
   -- every line has had its turn
-  pub queue-end : (i : ℕ) (near feeders order : List ℕ) (n : ℕ) → Queue N (Reached N (take i order)) near feeders order n → i ≡ n → Outwards N near feeders order
-  queue-end i near feeders order n q e = record {
+  pub queue-end : (i : ℕ) (sides feeders order : List ℕ) (n : ℕ) → Queue N (Reached N (take i order)) sides feeders order n → i ≡ n → Outwards N sides feeders order
+  queue-end i sides feeders order n q e = record {
     nears = λ l a b. q .told l (all l a b) .0;
     feeds = λ l a b. q .told l (all l a b) .1;
     listed = λ l a b. let x = place-of (all l a b) in (x .0, omega (arith, x .1, full), sym (getD-take n order (x .0) 0 (omega (arith, x .1, long))) ∙ x .2);
-    inside = λ j h. q .laid .inside (getD order j 0) (queue-line near feeders order n q j (omega (arith, full, long)));
+    inside = λ j h. q .laid .inside (getD order j 0) (queue-line sides feeders order n q j (omega (arith, full, long)));
     after = λ j h a.
         let x = getD-take n order j 0 (omega (arith, full, long)) in
         let y = q .laid .after j (omega (arith, full)) (subst (λ l. 1 ≤ feeder N l) (sym x) a) in

@@ -27,8 +27,8 @@ unfoldable pub feeder : Network → ℕ → ℕ
 unfolding secondLine
 feeder N l = secondLine (pathToHV N (line l))
 
-pub record Outwards (N : Network) (near feeders order : List ℕ) : Type 0 where
-  pub nears : (l : ℕ) → 1 ≤ l → l ≤ length (N .lines) → getD near (l - 1) 0 ≡ nearEnd N l .side
+pub record Outwards (N : Network) (sides feeders order : List ℕ) : Type 0 where
+  pub nears : (l : ℕ) → 1 ≤ l → l ≤ length (N .lines) → getD sides (l - 1) 0 ≡ nearEnd N l .side
   pub feeds : (l : ℕ) → 1 ≤ l → l ≤ length (N .lines) → getD feeders (l - 1) 0 ≡ feeder N l
   -- every line stands in the order, and nothing else
   pub listed : (l : ℕ) → 1 ≤ l → l ≤ length (N .lines) → (i : ℕ) × (i < length (N .lines)) × (getD order i 0 ≡ l)

@@ -22,9 +22,9 @@ abbrev pub leaving : ℕ → List End → List End
 leaving came es = keep (λ e. not (eqb (endCode e) came)) es
 
 -- the buffers when the lines of some ends are added
-unfoldable pub nearAfter : List ℕ → List End → List ℕ
-nearAfter near [] = near
-nearAfter near (e ∷ es) = nearAfter (set near (e .line - 1) (e .side)) es
+unfoldable pub sidesAfter : List ℕ → List End → List ℕ
+sidesAfter sides [] = sides
+sidesAfter sides (e ∷ es) = sidesAfter (set sides (e .line - 1) (e .side)) es
 
 unfoldable pub feedAfter : ℕ → List ℕ → List End → List ℕ
 feedAfter fed feeders [] = feeders
@@ -43,8 +43,8 @@ pub record Room (nexts : List ℕ) (first came count : ℕ) : Type 0 where
   pub fits : count + length (leaving came ends) ≤ 768
 
 -- the buffers with the lines of these ends added
-pub record Added (es : List End) (fed count : ℕ) (near feeders order near' feed' order' : List ℕ) (r : ℕ) : Type 0 where
-  pub nears : near' ≡ nearAfter near es
+pub record Added (es : List End) (fed count : ℕ) (sides feeders order sides' feed' order' : List ℕ) (r : ℕ) : Type 0 where
+  pub nears : sides' ≡ sidesAfter sides es
   pub feeds : feed' ≡ feedAfter fed feeders es
   pub orders : order' ≡ orderAfter order count es
   pub counted : r ≡ count + length es
@@ -60,13 +60,13 @@ pub record Laid (N : Network) (Done : ℕ → Type 0) (ls : List ℕ) : Type 0 w
 
 -- what the buffers say of lines
 abbrev pub Told : Network → List ℕ → List ℕ → List ℕ → Type 0
-Told N near feeders ls = (l : ℕ) → List·Memᴰ l ls → (getD near (l - 1) 0 ≡ nearEnd N l .side) × (getD feeders (l - 1) 0 ≡ feeder N l)
+Told N sides feeders ls = (l : ℕ) → List·Memᴰ l ls → (getD sides (l - 1) 0 ≡ nearEnd N l .side) × (getD feeders (l - 1) 0 ≡ feeder N l)
 
-pub record Queue (N : Network) (Done : ℕ → Type 0) (near feeders order : List ℕ) (n : ℕ) : Type 0 where
+pub record Queue (N : Network) (Done : ℕ → Type 0) (sides feeders order : List ℕ) (n : ℕ) : Type 0 where
   pub most : n ≤ 768
   pub laid : Laid N Done (take n order)
-  pub told : Told N near feeders (take n order)
-  pub nears : length near ≡ 768
+  pub told : Told N sides feeders (take n order)
+  pub nears : length sides ≡ 768
   pub feeds : length feeders ≡ 768
   pub orders : length order ≡ 768
 

@@ -19,7 +19,7 @@ fn is_closed(net: &buffer::Net, code: usize) -> bool
     requires { ⌜ CodeThere (networkIn (now net)) code ⌝ }
     ensures { λ r. ⌜ r ≡ not (isOpen (networkIn (now (net .entry))) (codeEnd code)) ⌝ }
 {
-    buffer::end_state(net, (code + 1) / 2, 2 - code % 2) != 2
+    !buffer::is_open(net, (code + 1) / 2, 2 - code % 2)
 }
 
 // The station that the end with a code is at.
@@ -179,4 +179,19 @@ pub fn outwards(
         n = from_line(net, chains, nexts, sides, feeders, order, i, n);
         i += 1;
     }
+}
+
+// Room for a number of each station.
+pub fn stations_space() -> [u64; 512] {
+    [0; 512]
+}
+
+// Room for a number of each end.
+pub fn ends_space() -> [u64; 1536] {
+    [0; 1536]
+}
+
+// Room for a number of each line.
+pub fn lines_space() -> [u64; 768] {
+    [0; 768]
 }

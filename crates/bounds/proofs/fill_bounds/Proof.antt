@@ -2,7 +2,6 @@ use native.Mathlib.Omega.{arith}
 use Prim.Native.Nat.{_-_}
 use mathlib.Core.Path.{refl}
 use lib.ListN.{replicate}
-use borrow.Author.Needs.{needs}
 use Rattle.bounds.proofs.Columns.{Built, built-none, built-more, ordered-before, ordered-after, ordered-falls, ordered-small}
 use Rattle.bounds.proofs.fill_bounds.Statement.{statement}
 use Rattle.bounds.proofs.fill_bounds.Tie as tie

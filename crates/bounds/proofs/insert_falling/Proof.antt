@@ -1,7 +1,6 @@
 use native.Mathlib.Omega.{arith}
 use Prim.Native.Nat.{_-_}
 use mathlib.Core.Logic.{⊎-elim}
-use borrow.Author.Needs.{needs}
 use Rattle.bounds.proofs.Inserting.{Inserts, inserts-none, inserts-here, inserts-past, inserts-all}
 use Rattle.bounds.proofs.insert_falling.Statement.{statement}
 use Rattle.bounds.proofs.insert_falling.Tie as tie

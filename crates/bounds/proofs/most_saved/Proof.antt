@@ -1,6 +1,5 @@
 use native.Mathlib.Omega.{arith}
 use Rattle.bounds.proofs.Entries.{bound-is}
-use borrow.Author.Needs.{needs}
 use Rattle.bounds.proofs.most_saved.Statement.{statement}
 use Rattle.bounds.proofs.most_saved.Tie as tie
 

@@ -3,7 +3,6 @@ use mathlib.Core.Path.{_≡_, refl, _∙_}
 use mathlib.Core.Logic.{⊎-elim}
 use native.Mathlib.Omega.{arith}
 use lib.ListN.{take}
-use borrow.Author.Needs.{needs}
 use Rattle.model.specs.Lists.{sum}
 use Rattle.theory.specs.Sizes.{take-most}
 use Rattle.bounds.proofs.Columns.{Rows, rows-none, rows-more, sum-within, sum-beyond}

@@ -16,8 +16,8 @@ outwards-requires c κs =
     let f = k .before .before in
     (f .before .pre, forest-held (f .before .args .net .now) (f .forest-rules .result) (f .forest-rules .ensures) (k .enum-told .given .1), l .link-ends .ensures)
 
-fill-breakers-requires : tie.Need-fill-breakers-requires
-fill-breakers-requires c κs =
+fill-trips-requires : tie.Need-fill-trips-requires
+fill-trips-requires c κs =
     let o = c .before .before .before .before .before in
     let l = o .before .before .before .before .before .before in
     let k = l .before .before .before in
@@ -31,7 +31,7 @@ over-series-requires c κs =
     let l = o .before .before .before .before .before .before in
     let k = l .before .before .before in
     let f = k .before .before in
-    (f .before .pre, forest-held (f .before .args .net .now) (f .forest-rules .result) (f .forest-rules .ensures) (k .enum-told .given .1), o .outwards .ensures .nears, p .fill-breakers .ensures .1)
+    (f .before .pre, forest-held (f .before .args .net .now) (f .forest-rules .result) (f .forest-rules .ensures) (k .enum-told .given .1), o .outwards .ensures .nears, p .fill-trips .ensures .1)
 
 returns-2 : tie.Need-returns-2
 returns-2 c =
@@ -54,8 +54,8 @@ returns-3 c =
       λ a. record {
         linked = l .link-ends .ensures;
         outwards = o .outwards .ensures;
-        tripping = p .fill-breakers .ensures .0;
-        counted = p .fill-breakers .ensures .1;
+        tripping = p .fill-trips .ensures .0;
+        counted = p .fill-trips .ensures .1;
       },
     )
 
@@ -69,7 +69,7 @@ rules-spec =
     (search needs)
     (λ c κs. search needs)
     outwards-requires
-    fill-breakers-requires
+    fill-trips-requires
     over-series-requires
     returns-2
     returns-3)

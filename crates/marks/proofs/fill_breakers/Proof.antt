@@ -18,7 +18,7 @@ abbrev μ-loop : tie.MeasureT-loop
 μ-loop net marks₀ code₀ code-end marks code = code-end - code
 
 loop-holds : tie.Need-loop-holds Inv-loop μ-loop
-loop-holds c = (omega arith, omega arith, omega arith, c .before .no-marks .ensures .1, λ p i j. absurd (omega arith))
+loop-holds c = (omega arith, omega arith, omega arith, c .before .clear .ensures .1, λ p i j. absurd (omega arith))
 
 breaker-mark-requires : tie.Need-breaker-mark-requires Inv-loop μ-loop
 breaker-mark-requires c κs = record { read = c .before .before .before .before .before .pre; low = c .before .loop .inv .1; high = omega arith }

@@ -18,7 +18,7 @@ loop-holds : tie.Need-loop-holds Inv-loop μ-loop
 loop-holds c =
     let s = c .before .before .before in
     let N = networkIn (s .args .net .now) in
-    let k = c .before .no-marks in
+    let k = c .before .clear in
     (omega arith, k .ensures .1, subst (MarksAbove N (k .last .0)) (sym (c .place-count .ensures)) (marks-none N (s .pre) (k .last .0) (k .ensures .0)))
 
 end-of-requires : tie.Need-end-of-requires Inv-loop μ-loop

@@ -4,7 +4,6 @@ use native.Mathlib.Omega.{arith}
 use lib.ListN.{take}
 use Rattle.buffer.specs.Buffer.{networkIn}
 use Rattle.prospects.proofs.Entering.{Written, row, last-few, place-few, written-none, later-place, written-more, written-all}
-use borrow.Author.Needs.{needs}
 use Rattle.prospects.proofs.enter.Statement.{statement}
 use Rattle.prospects.proofs.enter.Tie as tie
 

@@ -1,6 +1,5 @@
 use native.Mathlib.Omega.{arith}
 use Rattle.prospects.proofs.Outlooks.{raised, highest, in-series-kept}
-use borrow.Author.Needs.{needs}
 use Rattle.prospects.proofs.in_series_of.Statement.{statement}
 use Rattle.prospects.proofs.in_series_of.Tie as tie
 

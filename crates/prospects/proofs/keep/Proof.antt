@@ -1,6 +1,5 @@
 use native.Mathlib.Omega.{arith}
 use Rattle.prospects.proofs.Undoing.{keep-is}
-use borrow.Author.Needs.{needs}
 use Rattle.prospects.proofs.keep.Statement.{statement}
 use Rattle.prospects.proofs.keep.Tie as tie
 

@@ -1,6 +1,5 @@
 use native.Mathlib.Omega.{arith}
 use Rattle.prospects.proofs.Undoing.{put-is}
-use borrow.Author.Needs.{needs}
 use Rattle.prospects.proofs.put.Statement.{statement}
 use Rattle.prospects.proofs.put.Tie as tie
 

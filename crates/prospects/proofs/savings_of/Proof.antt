@@ -1,7 +1,6 @@
 use native.Mathlib.Omega.{arith}
 use Prim.Native.Nat.{_+_, _-_}
 use mathlib.Core.Path.{_∙_}
-use borrow.Author.Needs.{needs}
 use Rattle.buffer.specs.Buffer.{networkIn}
 use Rattle.prospects.proofs.Saving.{Saved, saving-is, rows-none, next-later, rows-more, rows-all}
 use Rattle.prospects.proofs.savings_of.Statement.{statement}

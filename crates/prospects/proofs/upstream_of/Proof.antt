@@ -2,7 +2,6 @@ use native.Mathlib.Omega.{arith}
 use mathlib.Core.Logic.{⊎-elim}
 use borrow.Author.Tests.{eqb-true, eqb-false}
 use Rattle.prospects.proofs.Outlooks.{upstream-taken, upstream-kept}
-use borrow.Author.Needs.{needs}
 use Rattle.prospects.proofs.upstream_of.Statement.{statement}
 use Rattle.prospects.proofs.upstream_of.Tie as tie
 

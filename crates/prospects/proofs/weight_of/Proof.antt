@@ -2,7 +2,6 @@ use mathlib.Core.Logic.{⊎-elim}
 use native.Mathlib.Omega.{arith}
 use borrow.Author.Tests.{eqb-true, eqb-false}
 use Rattle.prospects.proofs.Outlooks.{weight-taken, weight-kept}
-use borrow.Author.Needs.{needs}
 use Rattle.prospects.proofs.weight_of.Statement.{statement}
 use Rattle.prospects.proofs.weight_of.Tie as tie
 

@@ -7,7 +7,7 @@ use borrow.Author.Needs.{needs}
 use Rattle.model.specs.Paths.{stationNumbers}
 use Rattle.model.specs.Rules.{isSupplied}
 use Rattle.buffer.specs.Buffer.{networkIn}
-use Rattle.radial.specs.First.{Passed, passed-start, passed-next, passed-here, passed-end}
+use Rattle.end_rules.specs.First.{Passed, passed-start, passed-next, passed-here, passed-end}
 use Rattle.radial.specs.Stations.{label-there, marked-supplied, unmarked-unsupplied}
 use Rattle.radial.proofs.unsupplied.Statement.{statement}
 use Rattle.radial.proofs.unsupplied.Tie as tie

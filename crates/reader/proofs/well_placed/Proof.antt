@@ -26,7 +26,7 @@ returns-3 c =
     let a = c .before .before .before .before .before .before .args in
     let f = c .before .before .before .before .comes-after in
     by-state (networkIn (a .net .now) .lines) (a .n) (placeOf (a .before .now)) (placeOf (a .place .now)) (omega arith)
-    (sym (f .ensures) ∙ not-false (f .result) (c .before .before .before .if2 .left)) _ (c .end-state .ensures)
+    (sym (f .ensures) ∙ not-false (f .result) (c .before .before .before .if2 .left)) _ (c .is-plain .ensures)
 
 pub well-placed-spec : {M : Type 1} → statement M
 well-placed-spec = tie.close (tie.spec returns (search needs) returns-2 (search needs) (search needs) (search needs) returns-3)

@@ -1,5 +1,6 @@
-use mathlib.Core.Path.{_∙_}
+use mathlib.Core.Path.{sym, _∙_}
 use native.Mathlib.Omega.{arith}
+use borrow.Author.Tests.{not-true, not-false}
 use Rattle.buffer.specs.Buffer.{networkIn}
 use Rattle.tree.proofs.Fitting.{read-fits}
 use Rattle.relations.proofs.Above.{place-line, place-end, above-far, above-hv, feeder-in, above-fed}
@@ -7,20 +8,11 @@ use borrow.Author.Needs.{needs}
 use Rattle.relations.proofs.above_of.Statement.{statement}
 use Rattle.relations.proofs.above_of.Tie as tie
 
-sub-if1 : tie.Need-sub-if1
-sub-if1 c =
+is-far-requires : tie.Need-is-far-requires
+is-far-requires c κs =
     let s = c .before .before in
-    omega (arith, place-line (networkIn (s .args .net .now)) (s .pre .0) (s .args .place) (c .before .place-line .result) (s .pre .4) (c .before .place-line .ensures))
-
-mul-if1 : tie.Need-mul-if1
-mul-if1 c =
-    let s = c .before .before in
-    omega (arith, place-line (networkIn (s .args .net .now)) (s .pre .0) (s .args .place) (c .before .place-line .result) (s .pre .4) (c .before .place-line .ensures))
-
-element-copy-out-if1 : tie.Need-element-copy-out-if1
-element-copy-out-if1 c =
-    let s = c .before .before in
-    omega (arith, place-line (networkIn (s .args .net .now)) (s .pre .0) (s .args .place) (c .before .place-line .result) (s .pre .4) (c .before .place-line .ensures))
+    let i = place-line (networkIn (s .args .net .now)) (s .pre .0) (s .args .place) (c .before .place-line .result) (s .pre .4) (c .before .place-line .ensures) in
+    (i .0, omega (arith, i))
 
 sub-result : tie.Need-sub-result
 sub-result c =
@@ -45,7 +37,7 @@ returns c =
     let l = c .before .before .before .before .place-line .result in
     let t = c .before .before .before .place-side .result in
     let i = place-line N (s .pre .0) (g .place) l (s .pre .4) (c .before .before .before .before .place-line .ensures) in
-    above-far N (s .pre .0) (g .sides .now) (g .feeders .now) (g .marks .now) (g .firsts .now) (s .pre .1) (s .pre .2) (s .pre .3) l t (i .0) (i .1) (c .before .if1 .taken) ∙ place-end N (s .pre .0) (g .place) l t (c .before .before .before .before .place-line .ensures) (c .before .before .before .place-side .ensures)
+    above-far N (s .pre .0) (g .sides .now) (g .feeders .now) (g .marks .now) (g .firsts .now) (s .pre .1) (s .pre .2) (s .pre .3) l t (i .0) (i .1) (not-true _ (sym (c .before .before .is-far .ensures) ∙ c .before .if1 .taken)) ∙ place-end N (s .pre .0) (g .place) l t (c .before .before .before .before .place-line .ensures) (c .before .before .before .place-side .ensures)
 
 sub-feeder : tie.Need-sub-feeder
 sub-feeder c =
@@ -70,7 +62,7 @@ returns-2 c =
     let l = c .before .before .before .before .before .place-line .result in
     let t = c .before .before .before .before .place-side .result in
     let i = place-line N (s .pre .0) (g .place) l (s .pre .4) (c .before .before .before .before .before .place-line .ensures) in
-    above-hv N (s .pre .0) (g .sides .now) (g .feeders .now) (g .marks .now) (g .firsts .now) (s .pre .1) (s .pre .2) (s .pre .3) l t (i .0) (i .1) (c .before .before .if1 .left) (c .if2 .taken) ∙ place-end N (s .pre .0) (g .place) l t (c .before .before .before .before .before .place-line .ensures) (c .before .before .before .before .place-side .ensures)
+    above-hv N (s .pre .0) (g .sides .now) (g .feeders .now) (g .marks .now) (g .firsts .now) (s .pre .1) (s .pre .2) (s .pre .3) l t (i .0) (i .1) (not-false _ (sym (c .before .before .before .is-far .ensures) ∙ c .before .before .if1 .left)) (c .if2 .taken) ∙ place-end N (s .pre .0) (g .place) l t (c .before .before .before .before .before .place-line .ensures) (c .before .before .before .before .place-side .ensures)
 
 first-beyond-requires : tie.Need-first-beyond-requires
 first-beyond-requires c κs =
@@ -80,7 +72,7 @@ first-beyond-requires c κs =
     let l = c .before .before .before .before .before .place-line .result in
     let t = c .before .before .before .before .place-side .result in
     let i = place-line N (s .pre .0) (g .place) l (s .pre .4) (c .before .before .before .before .before .place-line .ensures) in
-    let k = feeder-in N (s .pre .0) (g .sides .now) (g .feeders .now) (g .marks .now) (g .firsts .now) (s .pre .1) (s .pre .2) (s .pre .3) l t (i .0) (i .1) (c .before .before .if1 .left) (c .if2 .left) in
+    let k = feeder-in N (s .pre .0) (g .sides .now) (g .feeders .now) (g .marks .now) (g .firsts .now) (s .pre .1) (s .pre .2) (s .pre .3) l t (i .0) (i .1) (not-false _ (sym (c .before .before .before .is-far .ensures) ∙ c .before .before .if1 .left)) (c .if2 .left) in
     (s .pre .0 .read, s .pre .0 .rules, s .pre .1 .nears, record { fits = read-fits N (s .pre .0 .read); low = k .0; high = k .1 })
 
 returns-3 : tie.Need-returns-3
@@ -91,7 +83,7 @@ returns-3 c =
     let l = c .before .before .before .before .before .before .place-line .result in
     let t = c .before .before .before .before .before .place-side .result in
     let i = place-line N (s .pre .0) (g .place) l (s .pre .4) (c .before .before .before .before .before .before .place-line .ensures) in
-    above-fed N (s .pre .0) (g .sides .now) (g .feeders .now) (g .marks .now) (g .firsts .now) (s .pre .1) (s .pre .2) (s .pre .3) l t (i .0) (i .1) (c .before .before .before .if1 .left) (c .before .if2 .left) (c .first-beyond .result) (c .first-beyond .ensures) ∙ place-end N (s .pre .0) (g .place) l t (c .before .before .before .before .before .before .place-line .ensures) (c .before .before .before .before .before .place-side .ensures)
+    above-fed N (s .pre .0) (g .sides .now) (g .feeders .now) (g .marks .now) (g .firsts .now) (s .pre .1) (s .pre .2) (s .pre .3) l t (i .0) (i .1) (not-false _ (sym (c .before .before .before .before .is-far .ensures) ∙ c .before .before .before .if1 .left)) (c .before .if2 .left) (c .first-beyond .result) (c .first-beyond .ensures) ∙ place-end N (s .pre .0) (g .place) l t (c .before .before .before .before .before .before .place-line .ensures) (c .before .before .before .before .before .place-side .ensures)
 
 pub above-of-spec : {M : Type 1} → statement M
 above-of-spec =
@@ -99,9 +91,7 @@ above-of-spec =
     (tie.spec
     (search needs)
     (search needs)
-    sub-if1
-    mul-if1
-    element-copy-out-if1
+    is-far-requires
     sub-result
     mul-result
     element-copy-out-result

@@ -20,7 +20,7 @@ abbrev μ-loop : tie.MeasureT-loop
 loop-holds : tie.Need-loop-holds Inv-loop μ-loop
 loop-holds c =
     let s = c .before .before .before in
-    let w = c .before .no-weights .ensures in
+    let w = c .before .clear .ensures in
     (omega arith, omega (arith, read-fits (networkIn (s .args .net .now)) (s .pre .0 .read) .lines), omega arith, w .1, λ code. omega (arith, w .0 code))
 
 mul-weights : tie.Need-mul-weights Inv-loop μ-loop

@@ -1,6 +1,5 @@
 use native.Mathlib.Omega.{arith}
 use borrow.Author.Tests.{eq-eqb, ne-eqb}
-use borrow.Author.Needs.{needs}
 use Rattle.starts.proofs.behind.Statement.{statement}
 use Rattle.starts.proofs.behind.Tie as tie
 

@@ -2,7 +2,6 @@ use Prim.Native.Nat.{_+_, _-_, _≤_}
 use mathlib.Core.Path.{_≡_}
 use native.Mathlib.Omega.{arith}
 use lib.ListN.{length, length-set}
-use borrow.Author.Needs.{needs}
 use Rattle.buffer.specs.Buffer.{networkIn}
 use Rattle.tree.proofs.Fitting.{read-fits}
 use Rattle.starts.proofs.FirstOutlook.{Filled, filled-more, upstreamCode, trip-upstream, place-line}

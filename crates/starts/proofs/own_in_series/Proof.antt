@@ -2,7 +2,6 @@ use Prim.Native.Nat.{_+_, _-_, _≤_}
 use mathlib.Core.Path.{_≡_, refl}
 use native.Mathlib.Omega.{arith}
 use lib.ListN.{length, getD, length-set}
-use borrow.Author.Needs.{needs}
 use Rattle.buffer.specs.Buffer.{networkIn}
 use Rattle.tree.proofs.Fitting.{read-fits}
 use Rattle.starts.proofs.Raising.{Raised, raised-none, raised-more, raised-all, first-few}

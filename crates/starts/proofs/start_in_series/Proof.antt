@@ -4,7 +4,6 @@ use mathlib.Core.Logic.{⊎-elim}
 use mathlib.Core.List.{[]}
 use native.Mathlib.Omega.{arith}
 use lib.ListN.{length, getD}
-use borrow.Author.Needs.{needs}
 use Rattle.graphs.specs.Sum.{on}
 use Rattle.savings.specs.Breakers.{endAt}
 use Rattle.buffer.specs.Buffer.{networkIn}

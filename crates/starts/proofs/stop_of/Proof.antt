@@ -1,6 +1,5 @@
 use native.Mathlib.Omega.{arith}
 use Rattle.starts.proofs.Stopping.{place-few, path-without, place-there, line-there, same-trip, other-trip}
-use borrow.Author.Needs.{needs}
 use Rattle.starts.proofs.stop_of.Statement.{statement}
 use Rattle.starts.proofs.stop_of.Tie as tie
 

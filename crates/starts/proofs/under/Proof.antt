@@ -1,5 +1,4 @@
 use native.Mathlib.Omega.{arith}
-use borrow.Author.Needs.{needs}
 use Rattle.starts.proofs.UnderPlaces.{second-part, first-part}
 use Rattle.starts.proofs.under.Statement.{statement}
 use Rattle.starts.proofs.under.Tie as tie

@@ -1,6 +1,5 @@
 use native.Mathlib.Omega.{arith}
 use mathlib.Core.Logic.{⊎-elim}
-use borrow.Author.Needs.{needs}
 use Rattle.tree.proofs.Following.{codesLeft, Following, following-start, following-end, following-less, following-skip, following-add}
 use Rattle.tree.proofs.append.Statement.{statement}
 use Rattle.tree.proofs.append.Tie as tie

@@ -3,7 +3,6 @@ use mathlib.Core.Path.{_≡_, sym, _∙_}
 use mathlib.Core.Logic.{⊎-elim}
 use native.Mathlib.Omega.{arith}
 use lib.ListN.{length}
-use borrow.Author.Needs.{needs}
 use Rattle.buffer.specs.Buffer.{networkIn}
 use Rattle.tree.specs.Queue.{Queue, HVUpTo}
 use Rattle.tree.proofs.Queueing.{queue-start, hv-skip, hv-room, hv-add, hv-end}

@@ -1,7 +1,6 @@
 use mathlib.Core.Path.{refl, sym, _∙_}
 use native.Mathlib.Omega.{arith}
 use borrow.Author.Tests.{not-true, not-false}
-use borrow.Author.Needs.{needs}
 use Rattle.tree.proofs.Queueing.{line-bounds, far-there, far-skip, far-room, far-add}
 use Rattle.tree.proofs.from_line.Statement.{statement}
 use Rattle.tree.proofs.from_line.Tie as tie

@@ -1,5 +1,4 @@
 use native.Mathlib.Omega.{arith}
-use borrow.Author.Needs.{needs}
 use Rattle.buffer.specs.Buffer.{networkIn}
 use Rattle.theory.specs.Radial.{station-in}
 use Rattle.tree.specs.Linked.{codeEnd}
