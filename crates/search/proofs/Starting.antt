@@ -11,19 +11,15 @@ use Rattle.model.specs.Network.{Network}
 use Rattle.model.specs.Outage.{total}
 use Rattle.model.specs.Sets.{placeNumbers, withBreakers, allowed, setTotal, saving}
 use Rattle.model.specs.Walk.{Found, start, extend, walk, search}
-use Rattle.search.specs.Walking.{foundIn, visited, extended, Counted, Extending, Starting}
-use Rattle.search.specs.declared.Progress.{Progress}
+use Rattle.search.specs.Walking.{foundIn, begun, visited, extended, Counted, Extending, Starting}
 use Rattle.prospects.proofs.Saving.{chosen-none}
 
 module _ {N : Network} {relations ends lists sums bounds outlook rows set₀ best : List ℕ} (x : Starting N relations ends lists sums bounds outlook rows set₀ best) where
-  abbrev first : Progress
-  first = record { saved = record { 0 = 0 }; count = 0; visits = 0; spent = false }
-
   pub saved-none : 0 + setTotal N [] ≡ total N
   unfolding setTotal withBreakers
   saved-none = omega arith
 
-  pub counted-none : Counted N first
+  pub counted-none : Counted N begun
   counted-none = record {
     saved = omega arith;
     count = omega arith;
@@ -57,7 +53,7 @@ module _ {N : Network} {relations ends lists sums bounds outlook rows set₀ bes
     }
 
     -- what is found from there is what the search finds
-    pub search-is : (f : Found) → f ≡ visited N [] (foundIn N first best) → extended N adds [] 1 f ≡ search N
+    pub search-is : (f : Found) → f ≡ visited N [] (foundIn N begun best) → extended N adds [] 1 f ≡ search N
     unfolding search walk start placeNumbers
     search-is f v =
         let n : length (N .places) + 1 - 1 ≡ length (N .places) = omega arith in

@@ -23,6 +23,10 @@ use Rattle.search.specs.declared.Current.{Current}
 abbrev pub foundIn : Network → Progress → List ℕ → Found
 foundIn N p best = record { members = take (p .count) best; best = total N - p .saved .0; visits = p .visits; spent = p .spent }
 
+-- a walk before its first visit
+abbrev pub begun : Progress
+begun = record { saved = record { 0 = 0 }; count = 0; visits = 0; spent = false }
+
 -- the defined visit and walk of a file
 abbrev pub visited : Network → List ℕ → Found → Found
 visited N S f = visit (N .head .visits) (λ T. setTotal N T) (λ T. allowed N T) (λ p. saving N p) S f

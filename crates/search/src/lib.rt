@@ -17,7 +17,7 @@ ghost use Rattle.buffer.specs.Fits.{PlaceThere};
 ghost use Rattle.outage.specs.Held.{HoldsCustomers};
 ghost use Rattle.marks.specs.Held.{HoldsEnds};
 ghost use Rattle.bounds.specs.Bounds.{HoldsBounds};
-ghost use Rattle.search.specs.Walking.{foundIn, visited, extended, Counted, Trying, Next, Barren, Promising, Seeking, Sought, Extending, Left, Starting};
+ghost use Rattle.search.specs.Walking.{foundIn, begun, visited, extended, Counted, Trying, Next, Barren, Promising, Seeking, Sought, Extending, Left, Starting};
 use amounts::Total;
 
 // How far a walk has come: how much the best set saves of the file's total, how many members it has, the visits, and whether the
@@ -384,6 +384,18 @@ fn extend(
     found
 }
 
+// A walk before its first visit.
+fn begin() -> Progress
+    ensures { λ r. ⌜ r ≡ begun ⌝ }
+{
+    Progress {
+        saved: Total::ZERO,
+        count: 0,
+        visits: 0,
+        spent: false,
+    }
+}
+
 // The search: the empty set, which saves nothing, is visited first, then it is extended by at most `adds` of the places.
 pub fn walk(
     net: &buffer::Net,
@@ -402,13 +414,7 @@ pub fn walk(
     ensures { λ r. ⌜ (foundIn (networkIn (now (net .entry))) r (now (best .exit)) ≡ search (networkIn (now (net .entry))))
         × (length (now (best .exit)) ≡ 16) × (r .count ≤ 16) ⌝ }
 {
-    let start = Progress {
-        saved: Total::ZERO,
-        count: 0,
-        visits: 0,
-        spent: false,
-    };
-    let first = visit(net, set, 0, Total::ZERO, best, start);
+    let first = visit(net, set, 0, Total::ZERO, best, begin());
     extend(
         net,
         relations,
