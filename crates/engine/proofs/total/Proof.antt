@@ -5,9 +5,6 @@ use Rattle.engine.proofs.Answers.{total-refused, total-given}
 use Rattle.engine.proofs.total.Statement.{statement}
 use Rattle.engine.proofs.total.Tie as tie
 
-enum-told : tie.Need-enum-told
-enum-told c = search needs
-
 total-of-requires : tie.Need-total-of-requires
 total-of-requires c κs =
     let k = c .before .before in
@@ -47,7 +44,7 @@ total-spec =
     (search needs)
     (search needs)
     (search needs)
-    enum-told
+    (λ c. search needs)
     total-of-requires
     (search needs)
     figure-of-requires

@@ -16,23 +16,8 @@ abbrev μ-loop : tie.MeasureT-loop
 loop-holds : tie.Need-loop-holds Inv-loop μ-loop
 loop-holds c = (omega arith, put-none (c .args .list .now) (c .args .lent .now))
 
-mul-lent : tie.Need-mul-lent Inv-loop μ-loop
-mul-lent c = omega arith
-
-shared-slice-read-lent : tie.Need-shared-slice-read-lent Inv-loop μ-loop
-shared-slice-read-lent c = omega arith
-
-mul-lent-2 : tie.Need-mul-lent-2 Inv-loop μ-loop
-mul-lent-2 c = omega arith
-
 slice-write-lent : tie.Need-slice-write-lent Inv-loop μ-loop
 slice-write-lent c = let l = c .before .before .loop in omega (arith, l .inv .1 .long)
-
-add-i : tie.Need-add-i Inv-loop μ-loop
-add-i c = omega arith
-
-loop-less : tie.Need-loop-less Inv-loop μ-loop
-loop-less c = omega arith
 
 loop-again : tie.Need-loop-again Inv-loop μ-loop
 loop-again c =
@@ -56,12 +41,12 @@ put-numbers-spec =
     Inv-loop
     μ-loop
     loop-holds
-    mul-lent
-    shared-slice-read-lent
-    mul-lent-2
+    (λ c. omega arith)
+    (λ c. omega arith)
+    (λ c. omega arith)
     slice-write-lent
-    add-i
-    loop-less
+    (λ c. omega arith)
+    (λ c. omega arith)
     loop-again
     same-length
     returns)

@@ -42,26 +42,11 @@ element-copy-out-out c =
     let s = c .before .before .before .before .before in
     omega (arith, trip-in (networkIn (s .args .net .now)) (s .pre .0) (s .pre .1) (s .args .trips .now) (s .pre .2) (c .before .before .loop .i) (omega arith) _ refl)
 
-mul-out-2 : tie.Need-mul-out-2 Inv-loop μ-loop
-mul-out-2 c = omega arith
-
-slice-write-out : tie.Need-slice-write-out Inv-loop μ-loop
-slice-write-out c = omega arith
-
-add-i : tie.Need-add-i Inv-loop μ-loop
-add-i c = omega arith
-
-loop-less : tie.Need-loop-less Inv-loop μ-loop
-loop-less c = omega arith
-
 loop-again : tie.Need-loop-again Inv-loop μ-loop
 loop-again c =
     let s = c .before .before .before .before .before .before in
     let h = c .before .before .before .loop in
     (omega arith, omega arith, omega arith, simp length-set (h .inv .3), upto-more (networkIn (s .args .net .now)) (h .out) (h .i) _ (omega arith) (trip-impact (networkIn (s .args .net .now)) (s .pre .0) (s .pre .1) (s .args .trips .now) (s .pre .2) (h .i) (omega arith) _ refl (s .args .sums .now) (s .pre .3) (c .before .trip-line .result) (c .before .trip-line .ensures)) (h .inv .4))
-
-same-length : tie.Need-same-length Inv-loop μ-loop
-same-length c = omega arith
 
 returns : tie.Need-returns Inv-loop μ-loop
 returns c = λ l a b. c .before .loop .inv .4 l a (omega arith)
@@ -78,10 +63,10 @@ impacts-behind-spec =
     sub-out
     mul-out
     element-copy-out-out
-    mul-out-2
-    slice-write-out
-    add-i
-    loop-less
+    (λ c. omega arith)
+    (λ c. omega arith)
+    (λ c. omega arith)
+    (λ c. omega arith)
     loop-again
-    same-length
+    (λ c. omega arith)
     returns)

@@ -74,9 +74,6 @@ add-station c =
     let N = networkIn (g .net .now) in
     omega (arith, read-fits N (s .pre .0 .read) .stations)
 
-loop-less : tie.Need-loop-less Inv-loop μ-loop
-loop-less c = omega arith
-
 loop-again : tie.Need-loop-again Inv-loop μ-loop
 loop-again c =
     let s = c .before .before .before .before .before .before .before in
@@ -127,7 +124,7 @@ sums-outwards-spec =
     is-hv-requires
     station-sum-requires
     add-station
-    loop-less
+    (λ c. omega arith)
     loop-again
     same-length
     returns)

@@ -38,12 +38,6 @@ plus-requires c κs =
     let N = networkIn (s .args .net .now) in
     omega (arith, amounts-first N (c .before .before .loop .line) (c .before .before .before .line-count .result + 1) (omega arith), total-size N (read-sized N (s .pre .0)))
 
-add-line : tie.Need-add-line Inv-loop μ-loop
-add-line c = omega arith
-
-loop-less : tie.Need-loop-less Inv-loop μ-loop
-loop-less c = omega arith
-
 loop-again : tie.Need-loop-again Inv-loop μ-loop
 loop-again c =
     let N = networkIn (c .before .before .before .before .before .args .net .now) in
@@ -66,7 +60,7 @@ total-of-spec =
     loop-holds
     outage-amount-requires
     plus-requires
-    add-line
-    loop-less
+    (λ c. omega arith)
+    (λ c. omega arith)
     loop-again
     returns)

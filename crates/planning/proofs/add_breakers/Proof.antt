@@ -18,12 +18,6 @@ loop-holds : tie.Need-loop-holds Inv-loop μ-loop
 unfolding withBreakers
 loop-holds c = (omega arith, refl)
 
-mul-place : tie.Need-mul-place Inv-loop μ-loop
-mul-place c = omega arith
-
-element-copy-out-place : tie.Need-element-copy-out-place Inv-loop μ-loop
-element-copy-out-place c = omega arith
-
 place-line-requires : tie.Need-place-line-requires Inv-loop μ-loop
 place-line-requires c κs =
     let d = c .before .before .before .before in
@@ -41,12 +35,6 @@ add-breaker-requires c κs =
     let d = c .before .before .before .before .before .before .before .before in
     let l = c .before .before .before .before .before .before .before .loop in
     end-there (networkIn (d .args .net .now)) (d .args .set .now) (d .args .count) (d .pre) (l .net) (l .i) (l .inv .1) (omega arith) (c .before .before .before .place-line .ensures) (c .before .place-side .ensures)
-
-add-i : tie.Need-add-i Inv-loop μ-loop
-add-i c = omega arith
-
-loop-less : tie.Need-loop-less Inv-loop μ-loop
-loop-less c = omega arith
 
 loop-again : tie.Need-loop-again Inv-loop μ-loop
 loop-again c =
@@ -67,12 +55,12 @@ add-breakers-spec =
     Inv-loop
     μ-loop
     loop-holds
-    mul-place
-    element-copy-out-place
+    (λ c. omega arith)
+    (λ c. omega arith)
     place-line-requires
     place-side-requires
     add-breaker-requires
-    add-i
-    loop-less
+    (λ c. omega arith)
+    (λ c. omega arith)
     loop-again
     returns)
