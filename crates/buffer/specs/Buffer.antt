@@ -1,6 +1,6 @@
 -- The network in a buffer of 5,129 numbers: the head's numbers at 0 to 7, the number of places at 8, then 2 numbers a station
 -- from 9 on, 5 a line from 1033 on and 4 a place from 4873 on.
-use Prim.Native.Nat.{ℕ, zero, suc}
+use Prim.Native.Nat.{ℕ, zero, suc, _+_, _*_, _-_}
 use mathlib.Core.List.{List, [], _∷_, map}
 use lib.ListN.{take, drop}
 use Rattle.model.specs.Network.{Head, Network, value, headOf, stationOf, lineOf, placeOf}
@@ -45,7 +45,22 @@ lineWidth = 5
 abbrev pub placeWidth : ℕ
 placeWidth = 4
 
--- where a number stands among those of its line: the weight first, the state of an end so many behind the end's number, 1 or 2
+-- where the numbers of a station, a line and a place begin
+abbrev pub stationFrom : ℕ → ℕ
+stationFrom s = stationsAt + stationWidth * (s - 1)
+
+abbrev pub lineFrom : ℕ → ℕ
+lineFrom l = linesAt + lineWidth * (l - 1)
+
+abbrev pub placeFrom : ℕ → ℕ
+placeFrom p = placesAt + placeWidth * (p - 1)
+
+-- where a number stands among those of its station, of which the role is first
+abbrev pub customersInStation : ℕ
+customersInStation = 1
+
+-- where a number stands among those of its line: the weight first, then the station of end 1 and that of end 2, by the end's number;
+-- the state of an end so many behind that
 abbrev pub stateBehind : ℕ
 stateBehind = 2
 

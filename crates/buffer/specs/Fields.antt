@@ -12,7 +12,7 @@ use Rattle.model.specs.Lists.{numbered}
 use Rattle.model.specs.Network.{Station, Line, Place, value, headOf, stationOf, lineOf, placeOf, noLine, noPlace, stateAt}
 use Rattle.model.specs.Paths.{state, stationAt, noStation, isHV, customersOf}
 use Rattle.model.specs.Sets.{placeAt}
-use Rattle.buffer.specs.Buffer.{recordsIn, networkIn}
+use Rattle.buffer.specs.Buffer.{stationCountAt, lineCountAt, placeCountAt, stationsAt, linesAt, placesAt, stationWidth, lineWidth, placeWidth, stationFrom, lineFrom, placeFrom, customersInStation, stateBehind, recordsIn, networkIn}
 use Rattle.buffer.specs.Fits.{lineIn, endIn}
 
 records-length : (width n : ℕ) (b : List ℕ) → length (recordsIn width n b) ≡ n
@@ -57,49 +57,49 @@ module _ (b : List ℕ) where
   place-count = length-map (recordsIn 4 (getD b 8 0) (drop 4873 b)) placeOf ∙ records-length 4 (getD b 8 0) (drop 4873 b)
 
   module _ (s : ℕ) (a : 1 ≤ s) (h : s ≤ length (networkIn b .stations)) where
-    station-at : numbered noStation (networkIn b .stations) s ≡ stationOf (take 2 (drop (9 + 2 * (s - 1)) b))
+    station-at : numbered noStation (networkIn b .stations) s ≡ stationOf (take stationWidth (drop (stationFrom s) b))
     unfolding networkIn headOf
-    station-at = record-at stationOf noStation 2 9 (getD b 0 0) b s a (omega (arith, station-count))
+    station-at = record-at stationOf noStation stationWidth stationsAt (getD b stationCountAt 0) b s a (omega (arith, station-count))
 
-    pub hv-at : isHV (networkIn b) s ≡ eqb (getD b (2 * s + 7) 0) 1
+    pub hv-at : isHV (networkIn b) s ≡ eqb (getD b (stationFrom s) 0) 1
     unfolding isHV stationOf
-    hv-at = ap (λ (x : Station). eqb (x .role) 1) station-at ∙ ap (λ n. eqb n 1) (number-at 2 (9 + 2 * (s - 1)) 0 (2 * s + 7) b (omega arith) (omega arith))
+    hv-at = ap (λ (x : Station). eqb (x .role) 1) station-at ∙ ap (λ n. eqb n 1) (number-at stationWidth (stationFrom s) 0 (stationFrom s) b (omega arith) (omega arith))
 
-    pub customers-at : customersOf (networkIn b) s ≡ getD b (2 * s + 8) 0
+    pub customers-at : customersOf (networkIn b) s ≡ getD b (stationFrom s + customersInStation) 0
     unfolding customersOf stationOf
-    customers-at = ap (λ (x : Station). x .customers) station-at ∙ number-at 2 (9 + 2 * (s - 1)) 1 (2 * s + 8) b (omega arith) (omega arith)
+    customers-at = ap (λ (x : Station). x .customers) station-at ∙ number-at stationWidth (stationFrom s) customersInStation (stationFrom s + customersInStation) b (omega arith) refl
 
   module _ (l : ℕ) (a : 1 ≤ l) (h : l ≤ length (networkIn b .lines)) where
-    pub line-at : lineIn b l ≡ lineOf (take 5 (drop (1033 + 5 * (l - 1)) b))
+    pub line-at : lineIn b l ≡ lineOf (take lineWidth (drop (lineFrom l) b))
     unfolding networkIn headOf
-    line-at = record-at lineOf noLine 5 1033 (getD b 1 0) b l a (omega (arith, line-count))
+    line-at = record-at lineOf noLine lineWidth linesAt (getD b lineCountAt 0) b l a (omega (arith, line-count))
 
-    line-number : (i j : ℕ) → i < 5 → j ≡ 5 * l + 1028 + i → value (take 5 (drop (1033 + 5 * (l - 1)) b)) i ≡ getD b j 0
-    line-number i j k e = number-at 5 (1033 + 5 * (l - 1)) i j b k (omega arith)
+    line-number : (i j : ℕ) → i < lineWidth → j ≡ lineFrom l + i → value (take lineWidth (drop (lineFrom l) b)) i ≡ getD b j 0
+    line-number i j k e = number-at lineWidth (lineFrom l) i j b k e
 
-    pub weight-at : lineIn b l .weight ≡ getD b (5 * l + 1028) 0
+    pub weight-at : lineIn b l .weight ≡ getD b (lineFrom l) 0
     unfolding lineOf
-    weight-at = ap (λ (x : Line). x .weight) line-at ∙ line-number 0 (5 * l + 1028) (omega arith) (omega arith)
+    weight-at = ap (λ (x : Line). x .weight) line-at ∙ line-number 0 (lineFrom l) (omega arith) (omega arith)
 
-    pub state-at : (side : ℕ) → 1 ≤ side → side ≤ 2 → state (networkIn b) (endIn l side) ≡ getD b (5 * l + side + 1030) 0
+    pub state-at : (side : ℕ) → 1 ≤ side → side ≤ 2 → state (networkIn b) (endIn l side) ≡ getD b (lineFrom l + (stateBehind + side)) 0
     unfolding state stateAt lineOf
     state-at zero p q = absurd (omega arith)
-    state-at (suc zero) p q = ap (λ (x : Line). x .state1) line-at ∙ line-number 3 (5 * l + 1 + 1030) (omega arith) (omega arith)
-    state-at (suc (suc zero)) p q = ap (λ (x : Line). x .state2) line-at ∙ line-number 4 (5 * l + 2 + 1030) (omega arith) (omega arith)
+    state-at (suc zero) p q = ap (λ (x : Line). x .state1) line-at ∙ line-number 3 (lineFrom l + (stateBehind + 1)) (omega arith) (omega arith)
+    state-at (suc (suc zero)) p q = ap (λ (x : Line). x .state2) line-at ∙ line-number 4 (lineFrom l + (stateBehind + 2)) (omega arith) (omega arith)
     state-at (suc (suc (suc n))) p q = absurd (omega arith)
 
-    pub end-station-at : (side : ℕ) → 1 ≤ side → side ≤ 2 → stationAt (networkIn b) (endIn l side) ≡ getD b (5 * l + side + 1028) 0
+    pub end-station-at : (side : ℕ) → 1 ≤ side → side ≤ 2 → stationAt (networkIn b) (endIn l side) ≡ getD b (lineFrom l + side) 0
     unfolding stationAt lineOf
     end-station-at zero p q = absurd (omega arith)
-    end-station-at (suc zero) p q = ap (λ (x : Line). x .from) line-at ∙ line-number 1 (5 * l + 1 + 1028) (omega arith) (omega arith)
-    end-station-at (suc (suc zero)) p q = ap (λ (x : Line). x .to) line-at ∙ line-number 2 (5 * l + 2 + 1028) (omega arith) (omega arith)
+    end-station-at (suc zero) p q = ap (λ (x : Line). x .from) line-at ∙ line-number 1 (lineFrom l + 1) (omega arith) (omega arith)
+    end-station-at (suc (suc zero)) p q = ap (λ (x : Line). x .to) line-at ∙ line-number 2 (lineFrom l + 2) (omega arith) (omega arith)
     end-station-at (suc (suc (suc n))) p q = absurd (omega arith)
 
   -- number i of a place
   module _ (p : ℕ) (a : 1 ≤ p) (h : p ≤ length (networkIn b .places)) where
-    place-is : placeAt (networkIn b) p ≡ placeOf (take 4 (drop (4873 + 4 * (p - 1)) b))
+    place-is : placeAt (networkIn b) p ≡ placeOf (take placeWidth (drop (placeFrom p) b))
     unfolding placeAt networkIn
-    place-is = record-at placeOf noPlace 4 4873 (getD b 8 0) b p a (omega (arith, place-count))
+    place-is = record-at placeOf noPlace placeWidth placesAt (getD b placeCountAt 0) b p a (omega (arith, place-count))
 
-    pub place-number : (f : Place → ℕ) (i j : ℕ) → ((vs : List ℕ) → f (placeOf vs) ≡ value vs i) → i < 4 → j ≡ 4 * p + 4869 + i → f (placeAt (networkIn b) p) ≡ getD b j 0
-    place-number f i j g k e = ap f place-is ∙ g (take 4 (drop (4873 + 4 * (p - 1)) b)) ∙ number-at 4 (4873 + 4 * (p - 1)) i j b k (omega arith)
+    pub place-number : (f : Place → ℕ) (i j : ℕ) → ((vs : List ℕ) → f (placeOf vs) ≡ value vs i) → i < placeWidth → j ≡ placeFrom p + i → f (placeAt (networkIn b) p) ≡ getD b j 0
+    place-number f i j g k e = ap f place-is ∙ g (take placeWidth (drop (placeFrom p) b)) ∙ number-at placeWidth (placeFrom p) i j b k e

@@ -12,7 +12,7 @@ fn both_open(net: &buffer::Net, line: usize) -> bool
     requires { ⌜ LineThere (now net) line ⌝ }
     ensures { λ r. ⌜ r ≡ bothOpen (networkIn (now (net .entry))) line ⌝ }
 {
-    buffer::is_open(net, line, 1) && buffer::is_open(net, line, 2)
+    grid::is_open(net, line, 1) && grid::is_open(net, line, 2)
 }
 
 // Rule 4: the first line with both ends open, or 0.
@@ -35,7 +35,7 @@ pub fn station_of(net: &buffer::Net, line: usize, side: usize) -> usize
     ensures { λ r. ⌜ r ≡ stationAt (networkIn (now (net .entry))) (endIn line side) ⌝ }
     ensures { λ r. ⌜ StationThere (now (net .entry)) r ⌝ }
 {
-    buffer::end_station(net, line, side)
+    grid::end_station(net, line, side)
 }
 
 // Whether an end, 1 or 2, of a line is a plain end at an HV station.
@@ -44,7 +44,7 @@ fn is_plain_at_hv(net: &buffer::Net, line: usize, side: usize) -> bool
     requires { ⌜ EndThere (now net) line side ⌝ }
     ensures { λ r. ⌜ r ≡ plainAtHV (networkIn (now (net .entry))) (endIn line side) ⌝ }
 {
-    buffer::is_plain(net, line, side) && buffer::is_hv(net, station_of(net, line, side))
+    grid::is_plain(net, line, side) && grid::is_hv(net, station_of(net, line, side))
 }
 
 // Whether a line has a plain end at an HV station.

@@ -19,7 +19,7 @@ fn end_of(net: &buffer::Net, place: usize) -> usize
     ensures { λ r. ⌜ (r ≡ endCode (endAt (networkIn (now (net .entry))) place)) × (1 ≤ r)
         × (r ≤ 2 * length (networkIn (now (net .entry)) .lines)) ⌝ }
 {
-    2 * buffer::place_line(net, place) + buffer::place_side(net, place) - 2
+    2 * grid::place_line(net, place) + grid::place_side(net, place) - 2
 }
 
 // No place has an end.
@@ -72,7 +72,7 @@ fn breaker_mark(net: &buffer::Net, code: usize) -> u64
     requires { ⌜ CodeThere (networkIn (now net)) code ⌝ }
     ensures { λ r. ⌜ r ≡ on (isBreaker (networkIn (now (net .entry))) (codeEnd code)) code ⌝ }
 {
-    if buffer::is_breaker(net, (code + 1) / 2, 2 - code % 2) {
+    if grid::is_breaker(net, (code + 1) / 2, 2 - code % 2) {
         code as u64
     } else {
         0

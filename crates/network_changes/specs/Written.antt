@@ -9,7 +9,7 @@ use lib.ListN.{length, take, drop, set, length-drop, length-set}
 use lib.Seq.{drop-drop, drop-set-add, drop-set-lt, take-set-le, take-set-lt, getD-set-same, getD-set-other, length-take-le, set-set, set-append-seam}
 use Rattle.model.specs.Lists.{renumbered}
 use Rattle.model.specs.Network.{Head, Station, Line, Place, Network, value, headOf, stationOf, lineOf, placeOf}
-use Rattle.buffer.specs.Buffer.{size, stationCountAt, lineCountAt, addsAt, placeCountAt, stationsAt, linesAt, placesAt, stationWidth, lineWidth, placeWidth, stateBehind, sideInPlace, costInPlace, hoursInPlace, recordsIn, networkIn}
+use Rattle.buffer.specs.Buffer.{size, stationCountAt, lineCountAt, addsAt, placeCountAt, stationsAt, linesAt, placesAt, stationWidth, lineWidth, placeWidth, lineFrom, placeFrom, stateBehind, sideInPlace, costInPlace, hoursInPlace, recordsIn, networkIn}
 use Rattle.buffer.specs.Fits.{Fits, LineThere, PlaceThere}
 use Rattle.buffer.specs.Fields.{station-count, line-count, place-count, line-at}
 use Rattle.buffer.specs.Parts.{records-last, same-head, adds-in-head}
@@ -79,13 +79,6 @@ network h s l p = record { head = h; stations = s; lines = l; places = p }
 same-parts : {h h′ : Head} {s s′ : List Station} {l l′ : List Line} {p p′ : List Place} → h ≡ h′ → s ≡ s′ → l ≡ l′ → p ≡ p′ → network h s l p ≡ network h′ s′ l′ p′
 same-parts {h} {h′} {s} {s′} {l} {l′} {p} {p′} e f g i =
     ap₂ (λ (x : Head) (y : List Station). network x y l p) e f ∙ ap₂ (λ (x : List Line) (y : List Place). network h′ s′ x y) g i
-
--- where a line and a place begin
-abbrev lineFrom : ℕ → ℕ
-lineFrom l = linesAt + lineWidth * (l - 1)
-
-abbrev placeFrom : ℕ → ℕ
-placeFrom p = placesAt + placeWidth * (p - 1)
 
 -- the stations and the lines that a buffer counts are in it
 pub record Room (b : List ℕ) : Type 0 where

@@ -24,7 +24,7 @@ fn hangs(net: &buffer::Net, line: usize, far: usize) -> bool
     requires { ⌜ EndThere (now net) line far ⌝ }
     ensures { λ r. ⌜ r ≡ isOpen (networkIn (now (net .entry))) (endIn line far) ⌝ }
 {
-    buffer::is_open(net, line, far)
+    grid::is_open(net, line, far)
 }
 
 // The customers of a station and behind some lines that leave it, with those behind one more line.
@@ -52,7 +52,7 @@ fn station_sum(
         × Filled (networkIn (now (net .entry))) (Leaves (networkIn (now (net .entry))) (codeEnd came) station)
         (now (sums .entry)) (now (sums .exit)) ⌝ }
 {
-    let mut sum = buffer::customers(net, station);
+    let mut sum = grid::customers(net, station);
     let mut end = chains[station - 1] as usize;
     while end != 0 {
         if end != came {
@@ -84,7 +84,7 @@ fn line_sum(
     let side = 1 + entered % 2;
     let mut sum: u64 = 0;
     if !hangs(net, line, side) {
-        let station = buffer::end_station(net, line, side);
+        let station = grid::end_station(net, line, side);
         sum = station_sum(
             net,
             chains,
@@ -106,7 +106,7 @@ fn sums_outwards(net: &buffer::Net, chains: &[u64; 512], nexts: &[u64; 1536], su
 {
     let levels = 2 * buffer::line_count(net) + 1;
     for station in 1..buffer::station_count(net) + 1 {
-        if buffer::is_hv(net, station) {
+        if grid::is_hv(net, station) {
             station_sum(net, chains, nexts, sums, 0, station, levels);
         }
     }
@@ -161,7 +161,7 @@ pub fn outage_amount(net: &buffer::Net, impacts: &[u64; 768], line: usize) -> To
         × (getD (now impacts) (line - 1) 0 ≡ impact (networkIn (now net)) line) ⌝ }
     ensures { λ r. ⌜ r .0 ≡ outageAmount (networkIn (now (net .entry))) line ⌝ }
 {
-    let weight = Weight::new(buffer::weight(net, line));
+    let weight = Weight::new(grid::weight(net, line));
     let customers = Customers::new(impacts[line - 1]);
     amounts::times(weight, customers)
 }

@@ -174,8 +174,8 @@ fn add_breakers(net: &mut buffer::Net, set: &[u64; 16], count: usize)
 {
     for i in 0..count {
         let place = set[i] as usize;
-        let line = buffer::place_line(net, place);
-        let side = buffer::place_side(net, place);
+        let line = grid::place_line(net, place);
+        let side = grid::place_side(net, place);
         add_breaker(net, line, side);
     }
 }

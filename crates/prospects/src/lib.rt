@@ -221,7 +221,7 @@ pub fn fall(
         ≡ setTotal (networkIn (now (net .entry))) (take size (now (set .entry))) ⌝ }
 {
     let upstream = upstream_of(net, relations, ends, outlook, set, size, pending, place) as usize;
-    let line = buffer::place_line(net, place);
+    let line = grid::place_line(net, place);
     let spared = sums[(upstream + 1) / 2 - 1] - sums[line - 1];
     let weight = weight_of(net, relations, outlook, set, size, pending, place);
     amounts::times(Weight::new(weight), Customers::new(spared))

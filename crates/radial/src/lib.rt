@@ -43,7 +43,7 @@ fn both_closed(net: &buffer::Net, line: usize) -> bool
     ensures { λ r. ⌜ r ≡ (not (isOpen (networkIn (now (net .entry))) (end1 line))
         && not (isOpen (networkIn (now (net .entry))) (end2 line))) ⌝ }
 {
-    !buffer::is_open(net, line, 1) && !buffer::is_open(net, line, 2)
+    !grid::is_open(net, line, 1) && !grid::is_open(net, line, 2)
 }
 
 // Rule 6: whether a path returns to its start. Where none does, stations have one label where a path joins them.
@@ -84,7 +84,7 @@ pub fn hv_joined(net: &buffer::Net, labels: &[u64; 512]) -> bool
 {
     let mut marks = [0u64; 513];
     for station in 1..buffer::station_count(net) + 1 {
-        if buffer::is_hv(net, station) {
+        if grid::is_hv(net, station) {
             let x = label_of(labels, station);
             if marks[x] == 1 {
                 return true;
@@ -104,7 +104,7 @@ fn hv_labels(net: &buffer::Net, labels: &[u64; 512]) -> [u64; 513]
 {
     let mut marks = [0u64; 513];
     for station in 1..buffer::station_count(net) + 1 {
-        if buffer::is_hv(net, station) {
+        if grid::is_hv(net, station) {
             let x = label_of(labels, station);
             marks[x] = 1;
         }

@@ -42,7 +42,7 @@ fn well_placed(net: &Net, n: usize, before: &[u64; 4], place: &[u64; 4]) -> bool
     if !comes_after(before, place) {
         return false;
     }
-    buffer::is_plain(net, place[0] as usize, place[1] as usize)
+    grid::is_plain(net, place[0] as usize, place[1] as usize)
 }
 
 // Reads the places of a file whose head, stations and lines are in the buffer.

@@ -3,6 +3,7 @@ ghost use mathlib.Core.Path.{_≡_};
 ghost use mathlib.Core.Bool.{not};
 ghost use lib.Dec.{eqb};
 ghost use lib.ListN.{length, getD};
+ghost use Rattle.savings.specs.Breakers.{endAt};
 ghost use Rattle.theory.specs.Best.{Accepted};
 ghost use Rattle.buffer.specs.Buffer.{networkIn};
 ghost use Rattle.relations.specs.Related.{HoldsRelations};
@@ -20,6 +21,15 @@ fn is_far(sides: &[u64; 768], line: usize, side: usize) -> bool
     side != sides[line - 1] as usize
 }
 
+// The line of a place.
+fn line_of(net: &buffer::Net, place: usize) -> usize
+    requires { ⌜ Accepted (networkIn (now net)) × Among (length (networkIn (now net) .places)) place ⌝ }
+    ensures is { λ r. ⌜ r ≡ endAt (networkIn (now (net .entry))) place .line ⌝ }
+    ensures there { λ r. ⌜ (1 ≤ r) × (r ≤ length (networkIn (now (net .entry)) .lines)) × (r ≤ 768) ⌝ }
+{
+    grid::place_line(net, place)
+}
+
 // The next place above a place, the first that the path onward from it meets; 0 if there is none.
 fn above_of(
     net: &buffer::Net,
@@ -34,8 +44,8 @@ fn above_of(
         × Among (length (networkIn (now net) .places)) place ⌝ }
     ensures { λ r. ⌜ r ≡ placeAbove (networkIn (now (net .entry))) place ⌝ }
 {
-    let line = buffer::place_line(net, place);
-    if is_far(sides, line, buffer::place_side(net, place)) {
+    let line = line_of(net, place);
+    if is_far(sides, line, grid::place_side(net, place)) {
         return firsts[line - 1] as usize;
     }
     let feeder = feeders[line - 1] as usize;

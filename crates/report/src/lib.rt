@@ -94,8 +94,8 @@ fn put_member(net: &buffer::Net, place: usize, buf: &mut [u8]) -> usize
     ensures written { λ r. ⌜ Written (lineB (networkIn (now (net .entry))) place) (now (buf .entry)) (now (buf .exit)) r ⌝ }
     ensures short { λ r. ⌜ r ≤ 44 ⌝ }
 {
-    let line = buffer::place_line(net, place) as u64;
-    let side = buffer::place_side(net, place) as u64;
+    let line = grid::place_line(net, place) as u64;
+    let side = grid::place_side(net, place) as u64;
     text::put_line(buf, b'B', &[line, side])
 }
 

@@ -97,7 +97,7 @@ fn cost_with(net: &buffer::Net, current: Current, place: usize) -> u64
         × (current .hours ≤ networkIn (now net) .head .hours) ⌝ }
     ensures { λ r. ⌜ r ≡ current .cost + placeAt (networkIn (now (net .entry))) place .cost ⌝ }
 {
-    current.cost + buffer::place_cost(net, place)
+    current.cost + grid::place_cost(net, place)
 }
 
 // The hours of the set with one more place.
@@ -106,7 +106,7 @@ fn hours_with(net: &buffer::Net, current: Current, place: usize) -> u64
         × (current .hours ≤ networkIn (now net) .head .hours) ⌝ }
     ensures { λ r. ⌜ r ≡ current .hours + placeAt (networkIn (now (net .entry))) place .hours ⌝ }
 {
-    current.hours + buffer::place_hours(net, place)
+    current.hours + grid::place_hours(net, place)
 }
 
 // Whether the set with one more place is allowed.

@@ -32,7 +32,7 @@ fn weights_tripped(net: &buffer::Net, trips: &[u64; 768], weights: &mut [u64; 15
     marks::clear(weights);
     for i in 0..buffer::line_count(net) {
         let code = trip_code(trips, i);
-        weights[code] = weights[code] + buffer::weight(net, i + 1);
+        weights[code] = weights[code] + grid::weight(net, i + 1);
     }
 }
 
@@ -57,7 +57,7 @@ fn has_entry(net: &buffer::Net, line: usize, side: usize) -> bool
     requires { ⌜ EndThere (now net) line side ⌝ }
     ensures { λ r. ⌜ r ≡ isBreaker (networkIn (now (net .entry))) (endIn line side) ⌝ }
 {
-    buffer::is_breaker(net, line, side)
+    grid::is_breaker(net, line, side)
 }
 
 // An entry at the start of a table.

@@ -17,7 +17,7 @@ pub fn count_beyond(net: &buffer::Net, sides: &[u64; 768], counts: &[u64; 768], 
         × HoldsCounts (networkIn (now net)) (now counts) × LineThere (now net) line ⌝ }
     ensures { λ r. ⌜ r ≡ breakersOn (networkIn (now (net .entry))) (farRoute (networkIn (now (net .entry))) line) ⌝ }
 {
-    if buffer::is_breaker(net, line, 3 - sides[line - 1] as usize) {
+    if grid::is_breaker(net, line, 3 - sides[line - 1] as usize) {
         counts[line - 1] + 1
     } else {
         counts[line - 1]

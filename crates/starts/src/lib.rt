@@ -27,7 +27,7 @@ fn stop_of(net: &buffer::Net, trips: &[u64; 768], firsts: &[u64; 768], line: usi
     if place == 0 {
         return 0;
     }
-    if trips[line - 1] != trips[buffer::place_line(net, place) - 1] {
+    if trips[line - 1] != trips[grid::place_line(net, place) - 1] {
         return 0;
     }
     place
@@ -43,7 +43,7 @@ fn own_weights(net: &buffer::Net, trips: &[u64; 768], firsts: &[u64; 768]) -> [u
     let mut own = [0u64; 65];
     for line in 1..buffer::line_count(net) + 1 {
         let stop = stop_of(net, trips, firsts, line);
-        own[stop] = own[stop] + buffer::weight(net, line);
+        own[stop] = own[stop] + grid::weight(net, line);
     }
     own
 }
@@ -100,7 +100,7 @@ fn far_place(
         × LineThere (now net) line ⌝ }
     ensures { λ r. ⌜ (r ≡ farPlace (networkIn (now (net .entry))) line) × (r ≤ 64) ⌝ }
 {
-    if buffer::is_open(net, line, 3 - sides[line - 1] as usize) {
+    if grid::is_open(net, line, 3 - sides[line - 1] as usize) {
         return 0;
     }
     paths::first_beyond(net, sides, marks, firsts, line) as usize
@@ -152,7 +152,7 @@ fn fill_upstreams(net: &buffer::Net, trips: &[u64; 768], outlook: &mut [u64])
     ensures { λ r. ⌜ HoldsUpstreams (networkIn (now (net .entry))) (now (outlook .exit)) ⌝ }
 {
     for p in 1..buffer::place_count(net) + 1 {
-        outlook[p] = trips[buffer::place_line(net, p) - 1];
+        outlook[p] = trips[grid::place_line(net, p) - 1];
     }
 }
 

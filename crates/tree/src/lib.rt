@@ -19,7 +19,7 @@ fn is_closed(net: &buffer::Net, code: usize) -> bool
     requires { ⌜ CodeThere (networkIn (now net)) code ⌝ }
     ensures { λ r. ⌜ r ≡ not (isOpen (networkIn (now (net .entry))) (codeEnd code)) ⌝ }
 {
-    !buffer::is_open(net, (code + 1) / 2, 2 - code % 2)
+    !grid::is_open(net, (code + 1) / 2, 2 - code % 2)
 }
 
 // The station that the end with a code is at.
@@ -28,7 +28,7 @@ fn station_of(net: &buffer::Net, code: usize) -> usize
     ensures { λ r. ⌜ (r ≡ stationAt (networkIn (now (net .entry))) (codeEnd code)) × (1 ≤ r)
         × (r ≤ length (networkIn (now (net .entry)) .stations)) ⌝ }
 {
-    buffer::end_station(net, (code + 1) / 2, 2 - code % 2)
+    grid::end_station(net, (code + 1) / 2, 2 - code % 2)
 }
 
 // Every station's list is empty.
@@ -116,7 +116,7 @@ fn from_hv(
     blank(sides, feeders, order);
     let mut n = 0;
     for s in 0..buffer::station_count(net) {
-        if buffer::is_hv(net, s + 1) {
+        if grid::is_hv(net, s + 1) {
             n = append(nexts, sides, feeders, order, chains[s] as usize, 0, 0, n);
         }
     }

@@ -19,10 +19,10 @@ use Rattle.outage.proofs.+line_sum+station_sum.Lts-line_sum as line-sum
 use Rattle.outage.proofs.station_sum.Reads as station-sum
 use Rattle.outage.proofs.station_sum.Kinds as station-sum-kinds
 use Rattle.outage.proofs.+line_sum+station_sum.Lts-station_sum as station-sum-lts
-use Rattle.buffer.proofs.customers.Reads as customers-reads
+use Rattle.grid.proofs.customers.Reads as customers-reads
 use Rattle.outage.proofs.hangs.Reads as hangs-reads
 use Rattle.outage.proofs.with_those_behind.Reads as with-those-behind-reads
-use Rattle.buffer.proofs.end_station.Reads as end-station-reads
+use Rattle.grid.proofs.end_station.Reads as end-station-reads
 use Rattle.outage.proofs.+line_sum+station_sum.{statement}
 use Rattle.outage.proofs.+line_sum+station_sum.Tie.{close}
 

@@ -1,8 +1,8 @@
 use mathlib.Core.Path.{ap}
 use lib.Dec.{eqb}
 use borrow.Author.Needs.{needs}
-use Rattle.buffer.proofs.is_breaker.Statement.{statement}
-use Rattle.buffer.proofs.is_breaker.Tie as tie
+use Rattle.grid.proofs.is_breaker.Statement.{statement}
+use Rattle.grid.proofs.is_breaker.Tie as tie
 
 returns : tie.Need-returns
 returns c = ap (λ n. eqb n 1) (c .end-state .ensures)
