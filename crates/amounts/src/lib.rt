@@ -1,17 +1,19 @@
 // Weights, customers and outage totals as types of their own. A weight belongs to a line and a customer count to a station;
 // only their product is an outage amount.
+#![tactic(auto)]
+
 ghost use Rattle.std.specs.Prelude.{◌≡◌, ◌+◌, ◌*◌, ◌^◌, ◌<◌, ltb};
 
 // A line's weight, in millionths of a failure a year.
-#[derive(Drop)]
+#[derive(Clone, Copy)]
 pub struct Weight(u64);
 
 // A number of customers.
-#[derive(Drop)]
+#[derive(Clone, Copy)]
 pub struct Customers(u64);
 
 // An outage amount, or a sum of such amounts. The field is private: nothing but `Total::ZERO`, `times` and `plus` makes one.
-#[derive(Drop)]
+#[derive(Clone, Copy)]
 pub struct Total(u64);
 
 impl Weight {

@@ -1,4 +1,6 @@
 // Prints the outage total of a feeder with three lines, growing line by line, and how totals compare.
+#![tactic(auto)]
+
 ghost use Rattle.std.specs.Prelude.{◌≡◌, ◌+◌, ◌*◌, ◌^◌, ◌<◌};
 
 use amounts::{Customers, Total, Weight};

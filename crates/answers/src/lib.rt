@@ -1,5 +1,7 @@
 // Steps of the calls that are the same for every file: whether what is lent is too short, whether a number is a line's, the answer to
 // what a search found and how many members it has, a refusal as one number.
+#![tactic(auto)]
+
 ghost use Rattle.std.specs.Prelude.{◌≡◌, true, false, ◌⊎◌, List, ℕ, ◌+◌, ◌*◌, ◌≤◌, ◌<◌, length};
 ghost use Rattle.model.specs.Answer.{given};
 ghost use Rattle.buffer.specs.Buffer.{network_in};

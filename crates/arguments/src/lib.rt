@@ -1,4 +1,6 @@
 // The words behind the program's name: what they ask for.
+#![tactic(auto)]
+
 ghost use Rattle.std.specs.Prelude.{◌≡◌, List, ℕ};
 ghost use Rattle.model.specs.declared.Word.{Word};
 ghost use Rattle.model.specs.Format.{number_of};

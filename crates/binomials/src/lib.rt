@@ -1,4 +1,6 @@
 // Ceiling: how many sets of at most so many places there are, by which planners choose the limit of visits.
+#![tactic(auto)]
+
 ghost use Rattle.std.specs.Prelude.{◌≡◌, true, false, ◌+◌, ◌^◌, ◌≤◌, ◌<◌};
 ghost use Rattle.model.specs.Ceiling.{binomial, set_count};
 ghost use Rattle.model.specs.Calls.{ceiling_answered, ceiling_says};

@@ -1,4 +1,6 @@
 // The table of the bounds: of the places from each one on, the sums of the largest savings.
+#![tactic(auto)]
+
 ghost use Rattle.std.specs.Prelude.{◌≡◌, ◌+◌, ◌≤◌, ◌<◌, length, take};
 ghost use Rattle.model.specs.Walk.{insert};
 ghost use Rattle.walks.specs.Largest.{Falls};

@@ -1,5 +1,7 @@
 // The path from an HV station that passes the most breakers, for rule 9. A row `reach` has for each station one more than the breakers
 // on its path, or 0 if it is not reached, and a row `feeders` the last line of that path.
+#![tactic(auto)]
+
 ghost use Rattle.theory.specs.Reading.{Read};
 ghost use Rattle.buffer.specs.Buffer.{network_in};
 

@@ -1,5 +1,7 @@
 // The program `breakers`: prints what the words behind its name ask for of a network file, and says on standard error why a file, a
 // number or a word is refused, or what failed.
+#![tactic(auto)]
+
 ghost use Rattle.std.specs.Prelude.{◌≤◌, length};
 ghost use Rattle.io.specs.Counts.{IsPrefixLen};
 

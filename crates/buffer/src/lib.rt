@@ -1,5 +1,7 @@
 // A network in a buffer of 5,129 numbers: the head's numbers at 0 to 7, the number of places at 8, then 2 numbers a station
 // from 9 on, 5 a line from 1033 on and 4 a place from 4873 on. Stations, lines, ends and places have the file's numbers, from 1.
+#![tactic(auto)]
+
 ghost use Rattle.std.specs.Prelude.{◌≡◌, length};
 ghost use Rattle.buffer.specs.Buffer.{network_in};
 

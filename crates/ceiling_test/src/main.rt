@@ -1,4 +1,6 @@
 // Prints what Ceiling answers for 0 to 65 places and 0 to 17 additions, and for numbers far outside its ranges.
+#![tactic(auto)]
+
 use model::CeilingAnswer;
 
 fn show(places: u64, additions: u64) {

@@ -1,4 +1,6 @@
 // The commands of the program: each asks a call and writes its answer as rows of text at the start of a buffer.
+#![tactic(auto)]
+
 ghost use Rattle.std.specs.Prelude.{◌≡◌, List, ℕ, ◌+◌, ◌*◌, ◌≤◌, length, take};
 ghost use Rattle.model.specs.Answer.{given};
 ghost use Rattle.model.specs.Text.{printed_line};
@@ -12,7 +14,7 @@ use model::{
 };
 
 // What is printed: how many bytes, and the number and the record of a refusal, 0 for an answer.
-#[derive(Drop)]
+#[derive(Clone, Copy)]
 pub struct Said {
     pub bytes: usize,
     pub number: u64,

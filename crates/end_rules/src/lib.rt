@@ -1,4 +1,6 @@
 // The rules 4 and 5, on the states of the ends: no line has both ends open, and every closed end at an HV station is a breaker.
+#![tactic(auto)]
+
 ghost use Rattle.std.specs.Prelude.{◌≡◌};
 ghost use Rattle.model.specs.Lists.{first_or};
 ghost use Rattle.model.specs.Paths.{station_at, line_numbers};

@@ -1,4 +1,6 @@
 // The calls of the engine.
+#![tactic(auto)]
+
 ghost use Rattle.std.specs.Prelude.{◌≡◌, ◌++◌, ◌≤◌, length, drop};
 ghost use Rattle.buffer.specs.Buffer.{network_in};
 ghost use Rattle.model.specs.Calls.{checked, check_says, impact_answered, impact_says, totalled, total_says, search_answered, search_leaves, search_says, report_answered, report_leaves, report_says, segments_answered, segments_leaves, segments_says};

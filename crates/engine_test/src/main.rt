@@ -1,5 +1,7 @@
 // Prints what the calls answer for each file of the input, and what they leave in lent buffers. A file ends at the two bytes '='
 // and newline. A buffer is filled with one value before each call: 99 a number, '#' a byte.
+#![tactic(auto)]
+
 ghost use Rattle.std.specs.Prelude.{◌+◌, ◌≤◌, ◌<◌, length};
 
 use model::{CheckAnswer, ImpactAnswer, ReportAnswer, SearchAnswer, SegmentsAnswer, TotalAnswer};

@@ -1,4 +1,6 @@
 // Refusals in words, for the planner who wrote the file or gave the number.
+#![tactic(auto)]
+
 use model::Command;
 
 // That a number is no line's, and which are.

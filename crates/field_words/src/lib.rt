@@ -1,5 +1,7 @@
 // Fields of a record in words: what they are called, what stands there and what is allowed. Kinds of record are 0 to 3 for N, S, L and P,
 // and the fields behind the letter are counted from 1.
+#![tactic(auto)]
+
 use file_parts::Due;
 
 // What a field is called: that field of its kind's form.

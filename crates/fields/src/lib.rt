@@ -1,10 +1,12 @@
 // Parts, fields and numbers of a file.
+#![tactic(auto)]
+
 ghost use Rattle.std.specs.Prelude.{◌≡◌, true, false, ◌+◌, ◌≤◌, ◌<◌, length, drop};
 ghost use Rattle.model.specs.Format.{comma, number_of, after_letter, fields_of};
 ghost use Rattle.fields.specs.Fields.{up_to, number_says, form_says};
 
 // The number of a field.
-#[derive(Drop)]
+#[derive(Clone, Copy)]
 pub enum Number {
     Value(u64),
     Bad,

@@ -1,5 +1,7 @@
 // Records and fields of a file that need not be well formed: what is absent is empty. Records are counted from 1; field 0 of a record is
 // its letter, and the fields behind it are counted from 1.
+#![tactic(auto)]
+
 ghost use Rattle.std.specs.Prelude.{◌≤◌, ◌<◌, length};
 
 use fields::Number;
@@ -8,7 +10,7 @@ use fields::Number;
 pub const NO_NUMBER: u64 = 18446744073709551615;
 
 // What is due at a record: its kind, 0 to 3 for N, S, L and P, in a file of so many stations and lines.
-#[derive(Drop)]
+#[derive(Clone, Copy)]
 pub struct Due {
     pub kind: usize,
     pub stations: u64,

@@ -1,5 +1,7 @@
 // The stations, lines, ends and places of the network in a buffer, by the file's numbers, from 1: what a station is and has, a line's
 // weight, the state and the station of an end, what a place is on and takes.
+#![tactic(auto)]
+
 ghost use Rattle.std.specs.Prelude.{◌≡◌};
 ghost use Rattle.model.specs.Paths.{state, is_plain, is_breaker, is_open, station_at, is_hv, customers_of};
 ghost use Rattle.model.specs.Sets.{place_at};

@@ -1,9 +1,11 @@
 // Reading a network file to its end.
+#![tactic(auto)]
+
 ghost use Rattle.std.specs.Prelude.{◌≡◌, length};
 ghost use Rattle.input.specs.Reading.{Within, input_of};
 
 // What was read: so many bytes, or a read that failed.
-#[derive(Drop)]
+#[derive(Clone, Copy)]
 pub enum Input {
     Bytes(usize),
     Failed,

@@ -1,5 +1,7 @@
 // The calls for programs in other languages. Each returns 0 if it answered, else the refusal as one number, and writes what it
 // answers at the start of a lent list of eight numbers, `answer`, whose rest stays. A refused call writes nothing.
+#![tactic(auto)]
+
 ghost use Rattle.std.specs.Prelude.{◌≡◌};
 ghost use Rattle.model.specs.Calls.{checked, impact_answered, totalled, search_answered, search_leaves, report_answered, report_leaves, segments_answered, segments_leaves, ceiling_answered};
 ghost use Rattle.jubaxendi.specs.Numbers.{returned, answer_leaves, no_values, impact_values, total_values, search_values, report_values, segments_values, ceiling_values};

@@ -1,4 +1,6 @@
 // Kinds of record in words: their forms, and which kind is due where. Kinds are 0 to 3 for N, S, L and P.
+#![tactic(auto)]
+
 ghost use Rattle.std.specs.Prelude.{◌≤◌};
 
 // The form of a record of a kind.

@@ -1,5 +1,7 @@
 // Stations and lines in words, each with its record in the file. Each function puts its text from position `at` on and answers where the
 // next text goes.
+#![tactic(auto)]
+
 use lookups::{number_at, sum};
 use words::{put, put_number};
 

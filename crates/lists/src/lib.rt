@@ -1,4 +1,6 @@
 // Lists of numbers: one written over the start of another.
+#![tactic(auto)]
+
 ghost use Rattle.std.specs.Prelude.{◌≡◌, ◌++◌, ◌≤◌, length, take, drop};
 
 // Writes the first `count` numbers of a list at the start of what is lent.

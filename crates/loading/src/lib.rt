@@ -1,4 +1,6 @@
 // A file loaded: read and held to the rules, with the lines from the HV stations outwards and the breakers on their paths.
+#![tactic(auto)]
+
 ghost use Rattle.std.specs.Prelude.{◌≡◌, ◌≤◌};
 ghost use Rattle.model.specs.Answer.{Answer};
 ghost use Rattle.model.specs.Network.{Network};

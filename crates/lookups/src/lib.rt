@@ -1,5 +1,7 @@
 // A read network asked by any number: what is not there has station 0 and no closed end. Rows of numbers, by the number of a station or
 // a line, likewise.
+#![tactic(auto)]
+
 ghost use Rattle.theory.specs.Reading.{Read};
 ghost use Rattle.buffer.specs.Buffer.{network_in};
 

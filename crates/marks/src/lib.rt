@@ -1,5 +1,7 @@
 // Marks on the ends of the lines, by the end's code: on a breaker its own code, on a place's end the place's number, on any other
 // end 0. The codes 1 and 2 are the ends of line 1, 3 and 4 those of line 2; 0 is none. The places have the file's numbers, from 1.
+#![tactic(auto)]
+
 ghost use Rattle.std.specs.Prelude.{◌≡◌, true, false, ℕ, ◌*◌, ◌≤◌, ◌<◌, length, get_or};
 ghost use Rattle.model.specs.Paths.{is_breaker};
 ghost use Rattle.graphs.specs.Sum.{on};

@@ -1,7 +1,8 @@
 // The types that the definitions in specs/ share with the engine's code.
+#![tactic(auto)]
 
 // The largest value of a field: a number, the file's number of stations or of lines, or a number that is 0 at an HV station.
-#[derive(Drop)]
+#[derive(Clone, Copy)]
 pub enum Largest {
     Number(u64),
     Stations,
@@ -10,7 +11,7 @@ pub enum Largest {
 }
 
 // The least and the largest value of a field.
-#[derive(Drop)]
+#[derive(Clone, Copy)]
 pub struct Range {
     pub least: u64,
     pub largest: Largest,
@@ -19,28 +20,28 @@ pub struct Range {
 // The answers of the seven calls. specs/Calls.antt gives the specification's numbers and values for each case.
 
 // Check: the file is accepted.
-#[derive(Drop)]
+#[derive(Clone, Copy)]
 pub enum CheckAnswer {
     Accepted,
     Refused { number: u64, record: u64 },
 }
 
 // Impact: the customers cut off by a fault on the line.
-#[derive(Drop)]
+#[derive(Clone, Copy)]
 pub enum ImpactAnswer {
     Customers(u64),
     Refused { number: u64, record: u64 },
 }
 
 // Total: the outage total of the file, and its SAIDI figure.
-#[derive(Drop)]
+#[derive(Clone, Copy)]
 pub enum TotalAnswer {
     Outage { total: u64, figure: u64 },
     Refused { number: u64, record: u64 },
 }
 
 // Search: how many places the best set has, its total, and how many sets were visited.
-#[derive(Drop)]
+#[derive(Clone, Copy)]
 pub enum SearchAnswer {
     Finished {
         members: usize,
@@ -59,28 +60,28 @@ pub enum SearchAnswer {
 }
 
 // Report: how many bytes were written.
-#[derive(Drop)]
+#[derive(Clone, Copy)]
 pub enum ReportAnswer {
     Written(usize),
     Refused { number: u64, record: u64 },
 }
 
 // Segments: how many entries the segment table has.
-#[derive(Drop)]
+#[derive(Clone, Copy)]
 pub enum SegmentsAnswer {
     Entries(usize),
     Refused { number: u64, record: u64 },
 }
 
 // Ceiling: how many sets of places there are.
-#[derive(Drop)]
+#[derive(Clone, Copy)]
 pub enum CeilingAnswer {
     Sets(u64),
     Refused { number: u64, record: u64 },
 }
 
 // What the program can be asked for: a call, with its numbers.
-#[derive(Drop)]
+#[derive(Clone, Copy)]
 pub enum Command {
     Report,
     Check,
@@ -92,7 +93,7 @@ pub enum Command {
 }
 
 // The first word behind the program's name: the command that it names, or another word.
-#[derive(Drop)]
+#[derive(Clone, Copy)]
 pub enum Word {
     Report,
     Check,
@@ -108,7 +109,7 @@ pub enum Word {
 
 // What the words behind the program's name ask for: a command, with the word that names the file (0 for standard input); the help
 // or the version; or how they are wrong, with the word that is no number.
-#[derive(Drop)]
+#[derive(Clone, Copy)]
 pub enum Request {
     Ask { command: Command, file: usize },
     Help,

@@ -1,4 +1,6 @@
 // Changes of the network in a buffer, a field at a time.
+#![tactic(auto)]
+
 ghost use Rattle.std.specs.Prelude.{◌≡◌, ◌≤◌, ◌<◌, length, set};
 ghost use Rattle.buffer.specs.Buffer.{network_in};
 ghost use Rattle.buffer.specs.Fits.{Fits, LineThere, EndThere, PlaceThere, place_on};

@@ -1,5 +1,7 @@
 // The parts of a network that closed lines join, by labels: the stations of a part have one label, an HV station's number if the part
 // has one. Rule 6 is about rings, rule 7 about joined HV stations, rule 8 about supply.
+#![tactic(auto)]
+
 ghost use Rattle.theory.specs.Reading.{Read};
 ghost use Rattle.buffer.specs.Buffer.{network_in};
 

@@ -1,5 +1,7 @@
 // Why a network whose records are all well formed is refused, in words: what is wrong, where, and what to do. Each function puts its
 // text from position `at` on and answers where the next text goes. Nothing is said of a rule that the network does not break.
+#![tactic(auto)]
+
 ghost use Rattle.theory.specs.Reading.{Read};
 ghost use Rattle.buffer.specs.Buffer.{network_in};
 

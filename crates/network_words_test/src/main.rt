@@ -1,5 +1,7 @@
 // Prints why each file of the input is refused: the number and the record, then the words. A file ends at the two bytes '=' and newline.
 // What is accepted is explained as if it were refused with 6.
+#![tactic(auto)]
+
 ghost use Rattle.std.specs.Prelude.{◌≤◌, length};
 
 use model::CheckAnswer;

@@ -1,5 +1,7 @@
 // The customers behind each line, the impact of a fault on it, the total of the outage amounts and the SAIDI figure.
 // An end has a code: 1 and 2 are the ends of line 1, 3 and 4 those of line 2; 0 is none.
+#![tactic(auto)]
+
 ghost use Rattle.std.specs.Prelude.{◌≡◌, ◌+◌, ◌*◌, ◌-◌, ◌/◌, ◌^◌, ◌≤◌, ◌<◌, length, get_or};
 ghost use Rattle.model.specs.Paths.{is_open};
 ghost use Rattle.model.specs.Outage.{impact, outage_amount, total as total_of, figure};

@@ -1,6 +1,8 @@
 // What the path of each line meets on its way to the HV station, by the marks on the ends: the breaker that trips for the line and
 // how many breakers are on the path; the first place. An end has a code: 1 and 2 are the ends of line 1, 3 and 4 those of line 2;
 // 0 is none.
+#![tactic(auto)]
+
 ghost use Rattle.std.specs.Prelude.{◌≡◌, List, ◌∷◌, ◌+◌, ◌-◌, ◌≤◌, length, get_or};
 ghost use Rattle.model.specs.Paths.{End};
 ghost use Rattle.theory.specs.Reading.{Read};
@@ -34,7 +36,7 @@ fn far_code(net: &buffer::Net, sides: &[u64; 768], line: usize) -> usize
 }
 
 // The marks that a path to the HV station meets: the first, 0 if there is none, and how many.
-#[derive(Drop)]
+#[derive(Clone, Copy)]
 struct Met {
     first: u64,
     count: u64,

@@ -1,4 +1,5 @@
 // Why a place was refused with 3, in words. A function says nothing, and answers `at`, where what it looks for is right.
+#![tactic(auto)]
 
 // The end that a place names.
 fn put_end(out: &mut [u8], at: usize, place: &[u8]) -> usize {

@@ -1,5 +1,7 @@
 // The search of an accepted network: the tables that it reads are prepared, the sets of places are walked, and the best set's total
 // is that of the network with its breakers.
+#![tactic(auto)]
+
 ghost use Rattle.std.specs.Prelude.{◌≡◌, ◌≤◌, length, take};
 ghost use mathlib.Core.List.{[], Sublistᴰ};
 ghost use Rattle.buffer.specs.Buffer.{network_in};
@@ -26,7 +28,7 @@ use amounts::Total;
 use search::Progress;
 
 // What a search found: the best set's total, how many members it has, the visits, and whether the search is spent.
-#[derive(Drop)]
+#[derive(Clone, Copy)]
 pub struct Plan {
     pub total: Total,
     pub count: usize,

@@ -1,4 +1,6 @@
 // What the search of a file found, as text: the report's rows C and B.
+#![tactic(auto)]
+
 ghost use Rattle.std.specs.Prelude.{◌≤◌, length};
 ghost use Rattle.model.specs.Commands.{plan_text, commanded};
 ghost use Rattle.model.specs.declared.Command.{Command};

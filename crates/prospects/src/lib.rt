@@ -3,6 +3,8 @@
 // larger set, and what changed is put back as it leaves the set.
 // Where a function takes `pending`, that is the set's last member if the outlook is still without it, and 0 if the outlook is the
 // set's own.
+#![tactic(auto)]
+
 ghost use Rattle.std.specs.Prelude.{◌≡◌, [], ◌∷◌, ◌++◌, map, ◌+◌, ◌*◌, ◌≤◌, length, take};
 ghost use Rattle.model.specs.Sets.{place_numbers, set_total, saving};
 ghost use Rattle.savings.specs.Breakers.{end_at};

@@ -1,4 +1,6 @@
 // The radial rules 6 to 8, by labels: stations have one label where a path joins them.
+#![tactic(auto)]
+
 ghost use Rattle.std.specs.Prelude.{◌≡◌, false, not, ◌&&◌, ℕ, ◌+◌, ◌≤◌, ◌<◌, length, get_or};
 ghost use Rattle.model.specs.Lists.{first_or};
 ghost use Rattle.model.specs.Paths.{end1, end2, is_open, station_numbers, line_numbers};

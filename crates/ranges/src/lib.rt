@@ -1,4 +1,6 @@
 // The ranges of a file's numbers: for each kind of record, the least and the largest value of each field.
+#![tactic(auto)]
+
 ghost use Rattle.std.specs.Prelude.{◌≡◌, [], ◌<◌, get_or};
 ghost use Rattle.model.specs.Ranges.{rows, in_range, largest_of, ◌to◌};
 

@@ -1,5 +1,7 @@
 // Prints, for each kind of record and each field, which of some values are in range, in a file of 7 stations and 5 lines; all
 // of it for three first numbers of the record.
+#![tactic(auto)]
+
 ghost use Rattle.std.specs.Prelude.{◌<◌};
 
 const VALUES: [u64; 32] = [

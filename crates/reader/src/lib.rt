@@ -1,4 +1,6 @@
 // The reader of a network file: its bytes to numbers, with the refusals 1 to 3.
+#![tactic(auto)]
+
 ghost use Rattle.std.specs.Prelude.{◌≡◌, true, false, ◌+◌, ◌≤◌, ◌<◌, length, take, drop};
 ghost use Rattle.model.specs.Format.{records_of};
 ghost use Rattle.model.specs.Network.{value, read_records, read_after_head, read_file, network_of, place_of, comes_after, well_placed};
@@ -13,7 +15,7 @@ use buffer::Net;
 use records::Step;
 
 // The network of the file is in the buffer, or the file is refused.
-#[derive(Drop)]
+#[derive(Clone, Copy)]
 pub enum ReadAnswer {
     Read,
     Refused { number: u64, record: u64 },

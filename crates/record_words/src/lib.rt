@@ -1,5 +1,6 @@
 // Why a record of a network file was refused with 1, 2 or 3, in words for the planner who wrote it. A file and a refusal that do not
 // belong together get a general sentence. Each `explain_` function says nothing, and answers `at`, where what it looks for is right.
+#![tactic(auto)]
 
 // The forms of the records behind the first.
 fn put_forms(out: &mut [u8], at: usize) -> usize {

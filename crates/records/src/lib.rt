@@ -1,4 +1,6 @@
 // Records of a file: their form, then the ranges of their numbers. Kinds of record are 0 to 3 for N, S, L and P.
+#![tactic(auto)]
+
 ghost use Rattle.std.specs.Prelude.{◌≡◌, ◌≤◌, ◌+◌, ◌<◌, ◌*◌, ◌^◌, length, drop, get_or, []};
 ghost use Rattle.model.specs.Format.{records_of};
 ghost use Rattle.model.specs.Network.{value, read_records};
@@ -8,7 +10,7 @@ ghost use Rattle.records.specs.Kinds.{letters, kind_at, next_record};
 ghost use Rattle.records.specs.Steps.{step_says, forward, within};
 
 // What was read is right, and the file goes on at a position; or the file is refused.
-#[derive(Drop)]
+#[derive(Clone, Copy)]
 pub enum Step {
     Next(usize),
     Stopped { number: u64, record: u64 },

@@ -1,4 +1,6 @@
 // How the places stand to each other, and lists of the later places that each place is related to.
+#![tactic(auto)]
+
 ghost use Rattle.std.specs.Prelude.{◌≡◌, not, eqb, length, get_or, ℕ, ◌+◌, ◌*◌, ◌-◌, ◌≤◌};
 ghost use Rattle.savings.specs.Breakers.{end_at};
 ghost use Rattle.theory.specs.Best.{Accepted};

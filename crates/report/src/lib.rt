@@ -1,4 +1,6 @@
 // The report of a network: its totals, the impact of a fault on each line, and the breakers that the search found.
+#![tactic(auto)]
+
 ghost use Rattle.std.specs.Prelude.{◌≡◌, ◌≤◌, length, take};
 ghost use Rattle.model.specs.Outage.{total as total_of, figure as figure_of};
 ghost use Rattle.model.specs.Text.{line_a, line_f, line_b, report_text};

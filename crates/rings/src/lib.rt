@@ -1,4 +1,6 @@
 // The lines that form a ring, and those that join two HV stations. Rule 6 is about rings, rule 7 about joined HV stations.
+#![tactic(auto)]
+
 ghost use Rattle.theory.specs.Reading.{Read};
 ghost use Rattle.buffer.specs.Buffer.{network_in};
 

@@ -1,6 +1,8 @@
 // The search: a walk over sets of places.
 // Where a function takes `pending`, that is the set's last member if the outlook is still without it, and 0 if the outlook is the
 // set's own.
+#![tactic(auto)]
+
 ghost use Rattle.std.specs.Prelude.{◌≡◌, true, false, ◌&&◌, [], ◌∷◌, ◌++◌, ◌+◌, ◌≤◌, leb, length, take};
 ghost use Rattle.model.specs.Outage.{total as total_of};
 ghost use Rattle.model.specs.Sets.{place_at, allowed, set_total};
@@ -18,7 +20,7 @@ use amounts::Total;
 
 // How far a walk has come: how much the best set saves of the file's total, how many members it has, the visits, and whether the
 // walk is spent.
-#[derive(Drop)]
+#[derive(Clone, Copy)]
 pub struct Progress {
     pub saved: Total,
     pub count: usize,
@@ -28,7 +30,7 @@ pub struct Progress {
 
 // The set that a walk stands at: how many members it has, the last of them (0 for the empty set), how much it saves of the file's
 // total, its cost and its hours.
-#[derive(Drop)]
+#[derive(Clone, Copy)]
 pub struct Current {
     pub size: usize,
     pub last: usize,

@@ -1,4 +1,6 @@
 // The segment table as rows of text.
+#![tactic(auto)]
+
 ghost use Rattle.std.specs.Prelude.{◌+◌, ◌*◌, ◌≤◌, length};
 ghost use Rattle.text.specs.Over.{Written};
 ghost use Rattle.segment_rows.specs.Rows.{entry_row, entry_rows, table_text};

@@ -1,5 +1,7 @@
 // The segment table groups the lines by the breaker that trips for them: an entry a breaker, with the weight of its lines, the
 // customers that it cuts off and their outage amount. An end has a code: 1 and 2 are the ends of line 1, 3 and 4 those of line 2.
+#![tactic(auto)]
+
 ghost use Rattle.std.specs.Prelude.{◌≡◌, ◌∷◌, ◌+◌, ◌*◌, ◌-◌, ◌^◌, ◌≤◌, ◌<◌, length, get_or, drop};
 ghost use Rattle.model.specs.Paths.{is_breaker};
 ghost use Rattle.model.specs.Segments.{breaker_ends, segment_table};

@@ -1,5 +1,7 @@
 // The breakers in series: those on the path of the station that a line feeds, the most on a path from an HV station, and the series
 // rule, rule 9.
+#![tactic(auto)]
+
 ghost use Rattle.std.specs.Prelude.{◌≡◌, max};
 ghost use Rattle.model.specs.Rules.{breakers_on, series_broken};
 ghost use Rattle.theory.specs.Reading.{Read};

@@ -1,5 +1,7 @@
 // Why too many breakers are in series (rule 9), in words. Each function puts its text from position `at` on and answers where the next
 // text goes.
+#![tactic(auto)]
+
 ghost use Rattle.theory.specs.Reading.{Read};
 ghost use Rattle.buffer.specs.Buffer.{network_in};
 

@@ -1,5 +1,7 @@
 // What a search by places starts from: for each place the breaker upstream of it, its weight and the most breakers in series with
 // it.
+#![tactic(auto)]
+
 ghost use Rattle.std.specs.Prelude.{◌≡◌, [], length, ◌≤◌, ◌<◌};
 ghost use Rattle.theory.specs.Best.{Accepted};
 ghost use Rattle.buffer.specs.Buffer.{network_in};

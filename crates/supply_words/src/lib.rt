@@ -1,4 +1,6 @@
 // Why a station has no supply (rule 8), in words. Each function puts its text from position `at` on and answers where the next text goes.
+#![tactic(auto)]
+
 ghost use Rattle.theory.specs.Reading.{Read};
 ghost use Rattle.buffer.specs.Buffer.{network_in};
 

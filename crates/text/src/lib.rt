@@ -1,4 +1,6 @@
 // The writers of the report's lines.
+#![tactic(auto)]
+
 ghost use Rattle.std.specs.Prelude.{◌≡◌, ◌+◌, ◌*◌, ◌≤◌, ◌<◌, length, set};
 ghost use Rattle.model.specs.Text.{decimal, printed_line};
 ghost use Rattle.text.specs.Over.{Written};

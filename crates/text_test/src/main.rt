@@ -1,4 +1,6 @@
 // Prints lines of one number and a line of four.
+#![tactic(auto)]
+
 ghost use Rattle.std.specs.Prelude.{◌≤◌, length};
 
 use libc::STDOUT_FILENO;

@@ -1,1 +1,2 @@
 // Theorems about the definitions of crate `model`: see specs/.
+#![tactic(auto)]

@@ -1,5 +1,7 @@
 // The tree of a radial network: lists of the closed ends at each station, and the lines from the HV stations outwards. An end has a
 // code: 1 and 2 are the ends of line 1, 3 and 4 those of line 2; 0 is none.
+#![tactic(auto)]
+
 ghost use Rattle.std.specs.Prelude.{ℕ, ◌+◌, ◌≤◌, ◌<◌, ◌≡◌, not, List, [], length, get_or, take};
 ghost use Rattle.model.specs.Paths.{End, is_open, station_at};
 ghost use Rattle.theory.specs.Reading.{Read};

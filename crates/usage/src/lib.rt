@@ -1,4 +1,6 @@
 // What the program says of itself: its help, its version, and how the words behind its name are wrong.
+#![tactic(auto)]
+
 use model::Request;
 
 // The version of the engine. crates/jubaxendi/jubaxendi.h has the same in JUBAXENDI_VERSION; tests/commands compares them.

@@ -1,5 +1,7 @@
 // Words into a buffer: each function puts its text from position `at` on and answers where the next text goes. What does not fit is
 // left out.
+#![tactic(auto)]
+
 ghost use Rattle.std.specs.Prelude.{◌≤◌, length};
 
 // A text as it is.

@@ -1,4 +1,6 @@
 // Prints, for each file of the input, its refusal and why it was refused, in words. A file ends at the two bytes '=' and newline.
+#![tactic(auto)]
+
 ghost use Rattle.std.specs.Prelude.{◌≤◌, length};
 
 use reader::ReadAnswer;
