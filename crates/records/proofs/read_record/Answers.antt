@@ -20,7 +20,7 @@ returns-then-not-read_form c =
     let a = c.args in
     let p = c.part_end-end in
     let f = c.read_form in record { answer = sym (wrong-form a.file.now a.at p.result p.ensures.0 a.stations a.lines a.i (kind_at a.kind) (omega arith) []
-          (form-wrong f.result f.new.1.1.0 a.kind _ _ c.letter_of.ensures f.ensures (omega arith) c.if-not-read_form.true)); position = tt }
+          (form-wrong f.result f.new.out a.kind _ _ c.letter_of.ensures f.ensures (omega arith) c.if-not-read_form.true)); position = tt }
 
 pub returns-then-not-in_ranges : goal.returns-then-not-in_ranges
 unfolding step_says forward kind_at
@@ -28,8 +28,8 @@ returns-then-not-in_ranges c =
     let a = c.args in
     let p = c.part_end-end in
     let f = c.read_form in
-    let r = c.in_ranges in record { answer = sym (wrong-range a.file.now a.at p.result p.ensures.0 a.stations a.lines a.i (kind_at a.kind) (omega arith) f.new.1.1.0
-          (form-right f.result f.new.1.1.0 a.kind _ _ c.letter_of.ensures f.ensures (omega arith) c.if-not-read_form.false)
+    let r = c.in_ranges in record { answer = sym (wrong-range a.file.now a.at p.result p.ensures.0 a.stations a.lines a.i (kind_at a.kind) (omega arith) f.new.out
+          (form-right f.result f.new.out a.kind _ _ c.letter_of.ensures f.ensures (omega arith) c.if-not-read_form.false)
           (sym c.if-not-in_ranges.true ∙ r.ensures)); position = tt }
 
 pub returns : goal.returns
@@ -38,6 +38,6 @@ returns c =
     let a = c.args in
     let p = c.part_end-end in
     let f = c.read_form in
-    let r = c.in_ranges in record { answer = sym (right a.file.now a.at p.result p.ensures.0 a.stations a.lines a.i (kind_at a.kind) (omega arith) f.new.1.1.0
-          (form-right f.result f.new.1.1.0 a.kind _ _ c.letter_of.ensures f.ensures (omega arith) c.if-not-read_form.false)
+    let r = c.in_ranges in record { answer = sym (right a.file.now a.at p.result p.ensures.0 a.stations a.lines a.i (kind_at a.kind) (omega arith) f.new.out
+          (form-right f.result f.new.out a.kind _ _ c.letter_of.ensures f.ensures (omega arith) c.if-not-read_form.false)
           (sym c.if-not-in_ranges.false ∙ r.ensures)); position = (omega arith, omega arith) }

@@ -56,7 +56,7 @@ returns-in-Stopped c =
     let a = c.args in
     let l = c.loop-k in
     let r = c.read_record-step in record { answer = sym (stopped a.stations a.lines (kind_at a.kind) a.file.now a.first a.count l.k l.at (records_in (length (get_or rows a.kind [])) l.k l.numbers) (omega arith) _ _
-          (says-stopped a.file.now r.result r.new.1.1.1.1.1.1.0 _ r.ensures.0 _ _ c.in-Stopped.is))
+          (says-stopped a.file.now r.result r.new.numbers _ r.ensures.answer _ _ c.in-Stopped.is))
           ∙ l.invariant.5; position = tt }
 
 pub loop-k-preserved : goal.loop-k-preserved
@@ -65,20 +65,20 @@ loop-k-preserved c =
     let l = c.loop-k in
     let w = c.width_of-width.result in
     let r = c.read_record-step in
-    let d = r.new.1.1.1.1.1.1.0 in
+    let d = r.new.numbers in
     let to = c.in-Next.next in
     let few : l.k * w + w ≤ length l.numbers = omega (arith, room l.k a.count w (omega arith)) in
-    let many : length d ≡ w = r.auto.1.1.1.1.1.1.0 ∙ part_length l.k a.count w l.numbers (omega arith) (omega arith) in
-    let same : length (put_mid (l.k * w) (l.k * w + w - l.k * w) l.numbers d) ≡ length l.numbers = same_len_mid (l.k * w) (l.k * w + w - l.k * w) l.numbers d r.auto.1.1.1.1.1.1.0 in (
+    let many : length d ≡ w = r.auto.numbers ∙ part_length l.k a.count w l.numbers (omega arith) (omega arith) in
+    let same : length (put_mid (l.k * w) (l.k * w + w - l.k * w) l.numbers d) ≡ length l.numbers = same_len_mid (l.k * w) (l.k * w + w - l.k * w) l.numbers d r.auto.numbers in (
       l.invariant.0,
       omega arith,
       omega arith,
-      omega (arith, next-forward a.file.now l.at r.result r.ensures.1 to c.in-Next.is),
+      omega (arith, next-forward a.file.now l.at r.result r.ensures.position to c.in-Next.is),
       same ∙ l.invariant.4,
       ap (λ (xs : List (List ℕ)). behind_these xs (read_records a.stations a.lines (a.first + (l.k + 1)) (kind_at a.kind) (a.count - (l.k + 1)) (records_of (drop to a.file.now))))
           (put_record (length (get_or rows a.kind [])) l.k (l.k * w) (l.k * w + w - l.k * w) l.numbers d (ap (λ (n : ℕ). l.k * n) l.invariant.0) (omega arith) (many ∙ l.invariant.0))
           ∙ sym (next a.stations a.lines (kind_at a.kind) a.file.now a.first a.count l.k l.at (records_in (length (get_or rows a.kind [])) l.k l.numbers) (omega arith) d to
-          (says-next a.file.now r.result d _ r.ensures.0 to c.in-Next.is))
+          (says-next a.file.now r.result d _ r.ensures.answer to c.in-Next.is))
           ∙ l.invariant.5,
     )
 
