@@ -52,6 +52,7 @@ numbers-rising from (suc count) = ((λ p m. omega (arith, numbers-from (from + 1
 
 -- no set is before itself
 pub before-irrefl : (S : List ℕ) → Before S S → ⊥
+before-irrefl [] x = elim x [ ]
 before-irrefl (p ∷ S) (smaller h) = omega arith
 before-irrefl (p ∷ S) (further e h) = before-irrefl S h
 
