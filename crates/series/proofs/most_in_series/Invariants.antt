@@ -12,7 +12,7 @@ use borrow.Author.Rules.{rules}
 use Rattle.series.proofs.most_in_series.Given as goal
 
 abbrev pub invariant-loop-line : goal.invariant-loop-line
-invariant-loop-line l = (l.line-end ≡ length (network_in l.net).lines + 1) × (1 ≤ l.line) × (l.line ≤ l.line-end) × (l.most ≤ most_in_series (network_in l.net)) × ((l : ℕ) → 1 ≤ l → l < l.line → breakers_on (network_in l.net) (far_route (network_in l.net) l) ≤ l.most)
+invariant-loop-line v = (v.line-end ≡ length (network_in v.net).lines + 1) × (1 ≤ v.line) × (v.line ≤ v.line-end) × (v.most ≤ most_in_series (network_in v.net)) × ((l : ℕ) → 1 ≤ l → l < v.line → breakers_on (network_in v.net) (far_route (network_in v.net) l) ≤ v.most)
 
 abbrev pub decreases-loop-line : goal.decreases-loop-line
 decreases-loop-line l = l.line-end - l.line
