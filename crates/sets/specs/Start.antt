@@ -25,8 +25,8 @@ use Rattle.sets.specs.Sets.{route, load, lines, weight_at, upstream_at, under_at
 use Rattle.sets.specs.Apart.{place_ends, ends-once, place-free}
 
 -- the weight of all lines whose path meets an end first, of those with a breaker or a place
-abbrev pub field_own : Network → End → ℕ
-field_own N e = own (route N) (load N) (lines N) (breakers_with N []) (place_ends N) e
+abbrev pub own_at : Network → End → ℕ
+own_at N e = own (route N) (load N) (lines N) (breakers_with N []) (place_ends N) e
 
 -- the most breakers on a path that meets an end first, of those with a place
 abbrev pub own_in_series_at : Network → End → ℕ
@@ -63,7 +63,7 @@ module _ (N : Network) (a : Accepted N) where
 
   -- a place's weight is the sum of what is its own and of what is that of the places under it
   pub start-weight : (p : ℕ) → Memᴰ p (place_numbers N)
-      → weight_at N [] (end_at N p) ≡ sum_over (λ s. on (same_end (end_at N s) (end_at N p) || under_at N [] (end_at N s) (end_at N p)) (field_own N (end_at N s))) (place_numbers N)
+      → weight_at N [] (end_at N p) ≡ sum_over (λ s. on (same_end (end_at N s) (end_at N p) || under_at N [] (end_at N s) (end_at N p)) (own_at N (end_at N s))) (place_numbers N)
   start-weight p m =
       weight-stops (onward N) (breakers_with N []) (no-breaker N [] tt) (place_ends N) place-free-of no_place (end_at N p)
       (place-listed p m) (ends-once N a) (route N) (load N) (lines N) (line-ways N a.read a.rules)
