@@ -14,7 +14,7 @@ fn show(letter: u8, numbers: &[u64])
 }
 
 fn show_number(n: u64) {
-    show(b'a', &[n]);
+    show(b'A', &[n]);
 }
 
 fn main() {
@@ -25,5 +25,5 @@ fn main() {
     show_number(100);
     show_number(12345678901234567890);
     show_number(18446744073709551615);
-    show(b'c', &[1, 4096, 16, 18446744073709551615]);
+    show(b'C', &[1, 4096, 16, 18446744073709551615]);
 }
