@@ -9,10 +9,12 @@ use Rattle.model.specs.Sets.{sets_up_to}
 use Rattle.model.specs.Walk.{Found, visit, start, walk}
 use Rattle.model.specs.Demand.{Before, extended}
 use Rattle.walks.specs.Sets.{sets-are}
-use Rattle.walks.specs.Order.{Rising, sets-ordered}
+use Rattle.walks.specs.Order.{Rising}
 use Rattle.walks.specs.Claims.{Asks, Fine, Answers}
-use Rattle.walks.specs.Runs.{Run, step, extend-runs}
+use Rattle.walks.specs.Runs.{Run, step}
 use Rattle.walks.specs.Visits.{Sound, run_sound, Tally, run-tally, Leads, run-leads}
+use Rattle.walks.proofs.Order.{sets-ordered}
+use Rattle.walks.proofs.Runs.{extend-runs}
 
 -- no set is before the empty set
 none_first : (T : List ℕ) → (T ≡ []) ⊎ Before [] T
