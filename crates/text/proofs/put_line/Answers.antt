@@ -16,7 +16,7 @@ loop-i-init c =
 pub loop-i-preserved : goal.loop-i-preserved
 loop-i-preserved c =
     let e = c.put_number-at.ensures in
-    (refl, omega arith, one_more _ _ _ _ _ _ _ _ _ (omega arith) c.loop-i.invariant.2 c.put_byte-in-loop-i.ensures e.0.0 e.1.1 e.0.1)
+    (refl, omega arith, one_more _ _ _ _ _ _ _ _ _ (omega arith) c.loop-i.invariant.2 c.put_byte-in-loop-i.ensures e.written.0 e.short.1 e.written.1)
 
 pub returns : goal.returns
 returns c =
@@ -24,4 +24,4 @@ returns c =
     let l = c.loop-i in
     let begun = subst (λ (b : List ℕ). Begun a.letter a.numbers.now b l.buf l.at l.i) c.put_byte.ensures l.invariant.2 in
     let f = finish a.letter a.numbers.now a.buf.now _ _ _ (search rules) begun in
-    ((f.0, c.put_byte-2.ensures ∙ f.1), omega arith)
+    record { written = (f.0, c.put_byte-2.ensures ∙ f.1); short = omega arith }
