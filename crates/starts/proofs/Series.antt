@@ -1,17 +1,21 @@
 -- The most breakers in series with a place before any is chosen, place after place of those behind it.
 use Prim.Native.Nat.{ℕ, ◌+◌, ◌≤◌, ◌<◌, max}
 use mathlib.Core.Path.{◌≡◌, sym, ◌∙◌}
-use mathlib.Core.Bool.{Bool}
+use mathlib.Core.Bool.{Bool, ◌||◌}
 use mathlib.Core.List.{List, []}
 use native.Mathlib.Omega.{arith}
 use lib.ListN.{length, get_or}
 use Rattle.model.specs.Lists.{numbers}
 use Rattle.model.specs.Network.{Network}
 use Rattle.model.specs.Sets.{place_numbers}
+use Rattle.model.specs.Paths.{same_end}
 use Rattle.graphs.specs.Sum.{on}
 use Rattle.savings.specs.Breakers.{end_at}
 use Rattle.theory.specs.Best.{Accepted}
 use Rattle.sets.specs.Sets.{in_series_at}
+use Rattle.sets.specs.Start.{own_in_series_at}
+use Rattle.sets.specs.Ways.{has}
+use Rattle.sets.specs.Onward.{onward}
 use Rattle.sets.proofs.Start.{start-in-series}
 use Rattle.relations.specs.Related.{HoldsRelations}
 use Rattle.starts.specs.Own.{HoldsOwnInSeries, behind_in}
@@ -29,7 +33,7 @@ pub in-series-all : (N : Network) → Accepted N → (relations own : List ℕ) 
 unfolding place_numbers
 in-series-all N a relations own h o p i j =
     most-all (behind_in relations p) (λ k. get_or own k 0) (length N.places)
-    ∙ most-ext (behind_in relations p) (λ k. get_or own k 0) _ _ (numbers 1 (length N.places)) (λ s m.
+    ∙ most-ext (behind_in relations p) (λ k. get_or own k 0) (λ k. same_end (end_at N k) (end_at N p) || has (end_at N p) (onward N (end_at N k))) (λ k. own_in_series_at N (end_at N k)) (numbers 1 (length N.places)) (λ s m.
     let k = in_place N s m in
     λ t. on (behind-is N a relations h p s i j k.0 k.1 t) (o s k.0 k.1 t))
     ∙ sym (start-in-series N a p (place_in N p i j))

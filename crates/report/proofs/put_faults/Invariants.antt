@@ -1,0 +1,17 @@
+use borrow.Author.Rules.{rules}
+use Prim.Native.Nat.{◌-◌, ◌*◌, ◌≤◌}
+use mathlib.Core.Path.{◌≡◌}
+use native.Mathlib.Omega.{arith}
+use lib.ListN.{length, length-take, length-drop}
+use Rattle.model.specs.Paths.{line_numbers}
+use Rattle.model.specs.Text.{line_f}
+use Rattle.theory.specs.Sizes.{read-sized}
+use Rattle.buffer.specs.Buffer.{network_in}
+use Rattle.text.proofs.Listing.{Listed, listed-none, listed_more, listed-all, lines-length, line-is}
+use Rattle.report.proofs.put_faults.Given as goal
+
+abbrev pub invariant-loop-i : goal.invariant-loop-i
+invariant-loop-i v = (v.i-end ≡ length (network_in v.net).lines) × (v.i ≤ v.i-end) × (v.at ≤ 30 * v.i) × Listed (λ l. line_f (network_in v.net) l) (line_numbers (network_in v.net)) v.initial.buf v.buf v.at v.i
+
+abbrev pub decreases-loop-i : goal.decreases-loop-i
+decreases-loop-i l = l.i-end - l.i

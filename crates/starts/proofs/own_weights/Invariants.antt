@@ -1,0 +1,17 @@
+use Prim.Native.Nat.{◌+◌, ◌-◌, ◌≤◌}
+use mathlib.Core.Path.{◌≡◌, refl, ap, ◌∙◌}
+use native.Mathlib.Omega.{arith}
+use lib.ListN.{length, get_or, length-set}
+use Rattle.buffer.specs.Buffer.{network_in}
+use Rattle.tree.proofs.Fitting.{read_fits}
+use Rattle.sets.specs.Sets.{load}
+use Rattle.theory.specs.Gathering.{Gathered, gathered_none, gathered-more}
+use Rattle.starts.specs.Own.{stop_of}
+use Rattle.starts.proofs.Gathering.{gathered-fits, gathered-all}
+use Rattle.starts.proofs.own_weights.Given as goal
+
+abbrev pub invariant-loop-line : goal.invariant-loop-line
+invariant-loop-line l = (l.line-end ≡ length (network_in l.net).lines + 1) × (1 ≤ l.line) × (l.line ≤ l.line-end) × (length l.own ≡ 65) × Gathered (stop_of (network_in l.net)) (load (network_in l.net)) l.line-end l.own l.line
+
+abbrev pub decreases-loop-line : goal.decreases-loop-line
+decreases-loop-line l = l.line-end - l.line

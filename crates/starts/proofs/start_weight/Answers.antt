@@ -1,0 +1,54 @@
+use Prim.Native.Nat.{◌+◌, ◌-◌, ◌≤◌}
+use mathlib.Core.Path.{◌≡◌, ap}
+use mathlib.Core.Logic.{⊎_elim}
+use mathlib.Core.List.{[]}
+use native.Mathlib.Omega.{arith}
+use lib.ListN.{length, get_or}
+use Rattle.savings.specs.Breakers.{end_at}
+use Rattle.buffer.specs.Buffer.{network_in}
+use Rattle.sets.specs.Sets.{weight_at}
+use Rattle.starts.specs.Own.{under_in}
+use Rattle.starts.proofs.UnderPlaces.{counted, not-counted}
+use Rattle.starts.proofs.Weighing.{share, weighed-more, weighed-all, weight-few}
+use Rattle.theory.specs.Gathering.{sum_from, sum_first, sum-none}
+use Rattle.starts.proofs.start_weight.Goals as goal
+use Rattle.starts.proofs.start_weight.Goals.{then-under, else-under}
+
+pub loop-s-init : goal.loop-s-init
+loop-s-init c =
+    let g = c.args in
+    let N = network_in g.net.now in
+    let add = share g.relations.now g.own.now g.upstreams.now g.p in
+    let all = weighed-all N c.requires.0 g.relations.now g.own.now g.upstreams.now c.requires.1 c.requires.2 c.requires.3 g.p c.requires.5.low c.requires.5.high in
+    (omega arith, omega arith, omega arith, omega (arith, all, ap (sum_from add 1) {x = c.place_count-s-end.result + 1} {y = length N.places + 1} (omega arith)))
+
+pub overflow_add-weight : goal.overflow_add-weight
+overflow_add-weight c =
+    let g = c.args in
+    let h = c.loop-s in
+    let N = network_in g.net.now in
+    let t = under_in g.relations.now g.upstreams.now g.p h.s in
+    omega (
+      arith,
+      counted {a = t} (get_or g.own.now h.s 0) c.under.ensures c.if-under.true,
+      sum_first (share g.relations.now g.own.now g.upstreams.now g.p) h.s (c.place_count-s-end.result + 1) (omega arith),
+      weight-few N c.requires.0 (end_at N g.p),
+    )
+
+pub loop-s-preserved : goal.loop-s-preserved
+loop-s-preserved c =
+    let g = c.args in
+    let h = c.loop-s in
+    let add = share g.relations.now g.own.now g.upstreams.now g.p in
+    let own = get_or g.own.now h.s 0 in
+    let t = under_in g.relations.now g.upstreams.now g.p h.s in
+    let e : c.if-under.weight ≡ h.weight + add h.s = elim c.if-under.branch [
+      | then-under w ↦ omega (arith, counted {a = t} own c.under.ensures w.if-under.true)
+      | else-under w ↦ omega (arith, not-counted {a = t} own c.under.ensures w.if-under.false)
+    ] in
+    (h.invariant.0, omega arith, omega arith, weighed-more add h.weight c.if-under.weight h.s _ _ (omega arith) e h.invariant.3)
+
+pub returns : goal.returns
+returns c =
+    let g = c.args in
+    omega (arith, c.loop-s.invariant.3, sum-none (share g.relations.now g.own.now g.upstreams.now g.p) c.loop-s.s (c.place_count-s-end.result + 1) (omega arith))

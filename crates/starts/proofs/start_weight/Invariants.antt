@@ -1,0 +1,22 @@
+use Prim.Native.Nat.{◌+◌, ◌-◌, ◌≤◌}
+use mathlib.Core.Path.{◌≡◌, ap}
+use mathlib.Core.Logic.{⊎_elim}
+use mathlib.Core.List.{[]}
+use native.Mathlib.Omega.{arith}
+use lib.ListN.{length, get_or}
+use Rattle.savings.specs.Breakers.{end_at}
+use Rattle.buffer.specs.Buffer.{network_in}
+use Rattle.sets.specs.Sets.{weight_at}
+use Rattle.starts.specs.Own.{under_in}
+use Rattle.starts.proofs.UnderPlaces.{counted, not-counted}
+use Rattle.starts.proofs.Weighing.{share, weighed-more, weighed-all, weight-few}
+use Rattle.theory.specs.Gathering.{sum_from, sum_first, sum-none}
+use Rattle.starts.proofs.start_weight.Given as goal
+
+abbrev pub invariant-loop-s : goal.invariant-loop-s
+invariant-loop-s l =
+    (l.s-end ≡ length (network_in l.net).places + 1) × (1 ≤ l.s) × (l.s ≤ l.s-end)
+    × (l.weight + sum_from (share l.relations l.own l.upstreams l.p) l.s l.s-end ≡ weight_at (network_in l.net) [] (end_at (network_in l.net) l.p))
+
+abbrev pub decreases-loop-s : goal.decreases-loop-s
+decreases-loop-s l = l.s-end - l.s
