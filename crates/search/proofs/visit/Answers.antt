@@ -1,0 +1,40 @@
+use Prim.Native.Nat.{◌≤◌}
+use mathlib.Core.Path.{◌≡◌, sym, ◌∙◌}
+use native.Mathlib.Omega.{arith}
+use lib.ListN.{take}
+use Rattle.model.specs.Outage.{total}
+use Rattle.buffer.specs.Buffer.{network_in}
+use Rattle.lists.proofs.Writing.{written-first, written-long}
+use Rattle.search.proofs.Visiting.{visit-spent, visit-better, visit-other}
+use borrow.Author.Rules.{rules}
+use Rattle.search.proofs.visit.Goals as goal
+
+pub returns-then-progress-visits : goal.returns-then-progress-visits
+returns-then-progress-visits c =
+    let n = network_in c.args.net.now in
+    let S = take c.args.size c.args.set.now in
+    let k = c.requires.4 in
+    (c.requires.1, record { saved = k.saved; count = k.count; visits = k.visits; limit = k.limit }, visit-spent n S c.args.progress c.args.best.now (c.if-progress-visits.true ∙ c.visits.ensures))
+
+pub below-requires : goal.below-requires
+below-requires c = tt
+
+pub returns-then-below : goal.returns-then-below
+returns-then-below c =
+    let n = network_in c.args.net.now in
+    let S = take c.args.size c.args.set.now in
+    let k = c.put_numbers in
+    let l : c.args.progress.visits ≡ n.head.visits → ⊥ = λ e. c.if-progress-visits.false (e ∙ sym c.visits.ensures) in
+    let b = sym c.below.ensures ∙ c.if-below.true in
+    let most : c.args.saved.0 ≤ total n = omega (arith, c.requires.3) in (
+      written-long c.args.set.now c.args.best.now k.new.lent c.args.size (omega (arith, c.requires)) (omega (arith, c.requires)) k.ensures ∙ c.requires.1,
+      record { saved = most; count = c.requires.2; visits = omega arith; limit = c.requires.4.limit },
+      visit-better n S c.args.progress c.args.best.now c.requires.4 l c.args.saved.0 c.requires.3 (take c.args.size k.new.lent) (written-first c.args.set.now c.args.best.now k.new.lent c.args.size (omega (arith, c.requires)) k.ensures) b,
+    )
+
+pub returns : goal.returns
+returns c =
+    let n = network_in c.args.net.now in
+    let S = take c.args.size c.args.set.now in
+    let l : c.args.progress.visits ≡ n.head.visits → ⊥ = λ e. c.if-progress-visits.false (e ∙ sym c.visits.ensures) in
+    (c.requires.1, record { saved = c.requires.4.saved; count = c.requires.4.count; visits = omega arith; limit = c.requires.4.limit }, visit-other n S c.args.progress c.args.best.now c.requires.4 l c.args.saved.0 c.requires.3 (sym c.below.ensures ∙ c.if-below.false))
