@@ -138,3 +138,8 @@ unfoldable pub text_or_x : Answer (List ℕ) → List ℕ
 unfolding line_x
 text_or_x (given text) = text
 text_or_x (refused number place) = line_x number place
+
+-- What the program `breakers` prints for a file: its report, or the line of its refusal.
+unfoldable pub printed : List ℕ → List ℕ
+unfolding text_or_x accepted report_text
+printed file = text_or_x (accepted file >>= λ N. given (report_text N))

@@ -17,8 +17,10 @@ pub record Planned (N : Network) (members : List ℕ) (count best visits : ℕ) 
   pub few : count ≤ 16
   pub found : ◌≡◌ {A = Found} (record { members = take count members; best = best; visits = visits; spent = spent }) (search N)
 
--- its impacts, its total and its search
+-- the impacts, the total and the search of an accepted network
 pub record Answered (N : Network) (impacts : List ℕ) (amount : ℕ) (members : List ℕ) (count best visits : ℕ) (spent : Bool) : Type 0 where
+  pub accepted : Accepted N
   pub holds : HoldsImpacts N impacts
   pub is_total : amount ≡ total N
-  pub plan : Planned N members count best visits spent
+  pub few : count ≤ 16
+  pub found : ◌≡◌ {A = Found} (record { members = take count members; best = best; visits = visits; spent = spent }) (search N)

@@ -10,7 +10,7 @@ use borrow.Author.Rules.{rules}
 use Rattle.report.proofs.write_report.Goals as goal
 
 pub write_plan-requires : goal.write_plan-requires
-write_plan-requires c = search rules
+write_plan-requires c = let a = c.requires.0 in (record { accepted = a.accepted; few = a.few; found = a.found }, search rules)
 
 pub returns : goal.returns
 returns c =

@@ -1,0 +1,14 @@
+use Prim.Native.Nat.{◌-◌, ◌≤◌}
+use mathlib.Core.Path.{◌≡◌, refl, subst}
+use native.Mathlib.Omega.{arith}
+use lib.ListN.{take}
+use Rattle.model.specs.Sets.{with_breakers}
+use Rattle.buffer.specs.Buffer.{network_in}
+use Rattle.planning.proofs.Changing.{place-there, end-there, one_more}
+use Rattle.planning.proofs.add_breakers.Given as goal
+
+abbrev pub invariant-loop-i : goal.invariant-loop-i
+invariant-loop-i l = (l.i ≤ l.count) × (network_in l.net ≡ with_breakers (network_in l.initial.net) (take l.i l.set))
+
+abbrev pub decreases-loop-i : goal.decreases-loop-i
+decreases-loop-i l = l.count - l.i
