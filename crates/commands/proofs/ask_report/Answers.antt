@@ -1,0 +1,7 @@
+use Rattle.commands.proofs.Answering.{report-left}
+use native.Mathlib.Omega.{arith}
+use borrow.Author.Rules.{rules}
+use Rattle.commands.proofs.ask_report.Goals as goal
+
+pub returns : goal.returns
+returns c = report-left _ _ _ _ (omega arith) c.report.ensures.result_value c.report.ensures.text_after
