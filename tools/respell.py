@@ -16,7 +16,7 @@ FIRST = {"sum_over": "sum-map-over"}
 # a name that the check makes of a variant
 STAYS = {"read_Some"}
 PART = re.compile(r"(?<![A-Za-z0-9_'])[a-z][A-Za-z0-9_']*")
-QUOTED = re.compile(r'("(?:[^"\\\n]|\\.)*")')
+QUOTED = re.compile(r"""("(?:[^"\\\n]|\\.)*"|\bb'[^'\\]')""")
 
 
 def snake(part):
@@ -33,7 +33,7 @@ def turned(text):
     for old, new in FIRST.items():
         text = re.sub(rf"(?<![A-Za-z0-9_'-]){old}(?![A-Za-z0-9_'-])", new, text)
     pieces = QUOTED.split(text)
-    return "".join(piece if piece.startswith('"') else PART.sub(respelled, piece) for piece in pieces)
+    return "".join(piece if index % 2 else PART.sub(respelled, piece) for index, piece in enumerate(pieces))
 
 
 def main():

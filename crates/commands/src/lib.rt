@@ -43,7 +43,7 @@ fn ask_check(file: &[u8], out: &mut [u8]) -> ReportAnswer
 {
     match engine::check(file) {
         CheckAnswer::Refused { number, record } => ReportAnswer::Refused { number, record },
-        CheckAnswer::Accepted => put_row(out, b'k', &[]),
+        CheckAnswer::Accepted => put_row(out, b'K', &[]),
     }
 }
 
@@ -54,7 +54,7 @@ fn ask_impact(file: &[u8], line: u64, out: &mut [u8]) -> ReportAnswer
 {
     match engine::impact(file, line) {
         ImpactAnswer::Refused { number, record } => ReportAnswer::Refused { number, record },
-        ImpactAnswer::Customers(customers) => put_row(out, b'i', &[line, customers]),
+        ImpactAnswer::Customers(customers) => put_row(out, b'I', &[line, customers]),
     }
 }
 
@@ -65,7 +65,7 @@ fn ask_total(file: &[u8], out: &mut [u8]) -> ReportAnswer
 {
     match engine::total(file) {
         TotalAnswer::Refused { number, record } => ReportAnswer::Refused { number, record },
-        TotalAnswer::Outage { total, figure } => put_row(out, b'a', &[total, figure]),
+        TotalAnswer::Outage { total, figure } => put_row(out, b'A', &[total, figure]),
     }
 }
 
@@ -76,7 +76,7 @@ fn ask_ceiling(places: u64, additions: u64, out: &mut [u8]) -> ReportAnswer
 {
     match binomials::ceiling(places, additions) {
         CeilingAnswer::Refused { number, record } => ReportAnswer::Refused { number, record },
-        CeilingAnswer::Sets(sets) => put_row(out, b'm', &[places, additions, sets]),
+        CeilingAnswer::Sets(sets) => put_row(out, b'M', &[places, additions, sets]),
     }
 }
 
@@ -132,7 +132,7 @@ fn put_answer(answer: ReportAnswer, out: &mut [u8]) -> usize
 {
     match answer {
         ReportAnswer::Written(n) => n,
-        ReportAnswer::Refused { number, record } => text::put_line(out, b'x', &[number, record]),
+        ReportAnswer::Refused { number, record } => text::put_line(out, b'X', &[number, record]),
     }
 }
 

@@ -95,7 +95,7 @@ module _ {N E : Type 0} {J : Graph N E} where
   last_step i u j (stop e) = ([], i, u, refl, subst (λ x. J i u x) e j)
   last_step i u j (step {u = u'} {i = i'} j' h) = let r = last_step i' u' j' h in (i ∷ r.0, r.1, r.2, ap (λ l. i ∷ l) r.3, r.4)
 
-  walk-listed : {u v : N} {p es : List E} → ((i : E) (x y : N) → J i x y → Memᴰ i es) → Walk J v u p → (i : E) → Memᴰ i p → Memᴰ i es
+  walk-listed : {v u : N} {p es : List E} → ((i : E) (x y : N) → J i x y → Memᴰ i es) → Walk J v u p → (i : E) → Memᴰ i p → Memᴰ i es
   walk-listed h (stop e) i m = absurd (Memᴰ.not-nil m)
   walk-listed {es} h (step {u} {i = i'} {w} {p} j k) i m = go (Memᴰ.cases_cons m) (walk-listed h k i)
     where

@@ -70,7 +70,7 @@ module _ {N E : Type 0} where
 
 -- ── walks ──
 module _ {N E : Type 0} {J : Graph N E} where
-  pub append : {u v w : N} {p q : List E} → Walk J v u p → Walk J w v q → Walk J w u (p ++ q)
+  pub append : {v u w : N} {p q : List E} → Walk J v u p → Walk J w v q → Walk J w u (p ++ q)
   append {w} {q} (stop e) k = subst (λ x. Walk J w x q) (sym e) k
   append (step j h) k = step j (append h k)
 
@@ -78,7 +78,7 @@ module _ {N E : Type 0} {J : Graph N E} where
   start-at e (stop d) = stop (e ∙ d)
   start-at e (step {i} {w} j h) = step (subst (λ x. J i x w) (sym e) j) h
 
-  pub end-at : {u v v' : N} {p : List E} → v ≡ v' → Walk J v u p → Walk J v' u p
+  pub end-at : {v u v' : N} {p : List E} → v ≡ v' → Walk J v u p → Walk J v' u p
   end-at e (stop d) = stop (d ∙ e)
   end-at e (step j h) = step j (end-at e h)
 
@@ -92,7 +92,7 @@ module _ {N E : Type 0} {J : Graph N E} where
   pub Reach-edge : (i : E) {u v : N} → J i u v → Reach J u v
   Reach-edge i j = (i ∷ [], step j (stop refl))
 
-  walk-sym : Edges J → {u v : N} {p : List E} → Walk J v u p → Reach J v u
+  walk-sym : Edges J → {v u : N} {p : List E} → Walk J v u p → Reach J v u
   walk-sym ed (stop e) = ([], stop (sym e))
   walk-sym ed (step {i} j h) = Reach-trans (walk-sym ed h) (Reach-edge i (ed.turn j))
 
@@ -100,15 +100,15 @@ module _ {N E : Type 0} {J : Graph N E} where
   Reach-sym ed h = walk-sym ed h.1
 
   -- a walk stays a walk in a graph that has its edges
-  pub widen : {K : Graph N E} {u v : N} {p : List E} → ((i : E) (x y : N) → J i x y → K i x y) → Walk J v u p → Walk K v u p
+  pub widen : {K : Graph N E} {v u : N} {p : List E} → ((i : E) (x y : N) → J i x y → K i x y) → Walk J v u p → Walk K v u p
   widen f (stop e) = stop e
   widen f (step {u} {i} {w} j h) = step (f i u w j) (widen f h)
 
-  pub avoid : (i : E) {u v : N} {p : List E} → Fresh i p → Walk J v u p → Walk (Without i J) v u p
+  pub avoid : (i : E) {v u : N} {p : List E} → Fresh i p → Walk J v u p → Walk (Without i J) v u p
   avoid i f (stop e) = stop e
   avoid i f (step j h) = step (f.0, j) (avoid i f.1 h)
 
-  pub avoids : (i : E) {u v : N} {p : List E} → Walk (Without i J) v u p → Fresh i p
+  pub avoids : (i : E) {v u : N} {p : List E} → Walk (Without i J) v u p → Fresh i p
   avoids i (stop e) = tt
   avoids i (step j h) = (j.0, avoids i h)
 
@@ -135,9 +135,9 @@ split-once {i} s n = NoRepeat-tail s.pre (i ∷ s.post) (subst NoRepeat s.whole 
 
 module _ {N E : Type 0} (dec : Discrete E) {J : Graph N E} where
   -- a walk does not pass i, or there is a first place where it does
-  pub cut : (i : E) {u v : N} {p : List E} → Walk J v u p → Fresh i p ⊎ Split J i u p v
+  pub cut : (i : E) {v u : N} {p : List E} → Walk J v u p → Fresh i p ⊎ Split J i u p v
   cut i (stop e) = inl tt
-  cut i {u} {v} (step {i = j} {w} {p} e h) = go (dec i j) (cut i h)
+  cut i {v} {u} (step {i = j} {w} {p} e h) = go (dec i j) (cut i h)
     where
       go : Dec (i ≡ j) → Fresh i p ⊎ Split J i w p v → Fresh i (j ∷ p) ⊎ Split J i u (j ∷ p) v
       go (yes q) r = inr (record { pre = []; post = p; x = u; y = w; before = stop refl; passed = subst (λ k. J k u w) (sym q) e; after = h; fresh = tt; whole = ap (λ k. k ∷ p) (sym q) })
@@ -145,9 +145,9 @@ module _ {N E : Type 0} (dec : Discrete E) {J : Graph N E} where
       go (no d) (inr s) = inr (record { pre = j ∷ s.pre; post = s.post; x = s.x; y = s.y; before = step e s.before; passed = s.passed; after = s.after; fresh = (d, s.fresh); whole = ap (λ k. j ∷ k) s.whole })
 
   -- where a walk leads, a path leads
-  pub to-path : Edges J → {u v : N} {p : List E} → Walk J v u p → Connected J u v
+  pub to-path : Edges J → {v u : N} {p : List E} → Walk J v u p → Connected J u v
   to-path ed (stop e) = ([], record { walk = stop e; once = tt })
-  to-path ed {u} {v} (step {i} {w} j h) = add (to-path ed h)
+  to-path ed {v} {u} (step {i} {w} j h) = add (to-path ed h)
     where
       add : Connected J w v → Connected J u v
       add (q, t) = drop (cut i t.walk)

@@ -50,7 +50,7 @@ module _ {N E : Type 0} {In : N → Type 0} {J : Graph N E} where
       stays (stop e) = e
       stays (step {u} {i} {w} j h) = absurd (none i u w j)
 
-  walk-in : Edges J → ((i : E) (x y : N) → J i x y → In x) → {u v : N} {p : List E} → In u → Walk J v u p → In v
+  walk-in : Edges J → ((i : E) (x y : N) → J i x y → In x) → {v u : N} {p : List E} → In u → Walk J v u p → In v
   walk-in ed low l (stop e) = subst In e l
   walk-in ed low l (step {u} {i} {w} j h) = walk-in ed low (low i w u (ed.turn j)) h
 
@@ -93,7 +93,7 @@ module _ {N E : Type 0} (dec : Discrete E) {In : N → Type 0} {J K : Graph N E}
         ends (inl (p, q)) = cc met
         ends (inr (p, q)) = cc met
 
-    walk_kept : {u v : N} {p : List E} → Walk K v u p → relabel (lab a) (lab b) (lab u) ≡ relabel (lab a) (lab b) (lab v)
+    walk_kept : {v u : N} {p : List E} → Walk K v u p → relabel (lab a) (lab b) (lab u) ≡ relabel (lab a) (lab b) (lab v)
     walk_kept (stop q) = ap (λ x. relabel (lab a) (lab b) (lab x)) q
     walk_kept (step {u} {i} {w} j h) = step_kept i u w (dec i e) j ∙ walk_kept h
 

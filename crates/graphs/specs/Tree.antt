@@ -36,9 +36,9 @@ module _ {N E : Type 0} {J : Graph N E} where
   pub home-from : {R : N → Type 0} {v : N} (xs ys : List E) → Home J R v (xs ++ ys) → (w : N) × Walk J w v xs × Home J R w ys
   home-from {R} {v} xs ys h = let s = part xs h.trail.walk in (s.0, s.1, record { root = h.root; is-root = h.is-root; trail = record { walk = s.2; once = NoRepeat-tail xs ys h.trail.once } })
     where
-      part : {u r : N} (xs : List E) → Walk J r u (xs ++ ys) → (w : N) × Walk J w u xs × Walk J r w ys
+      part : {r u : N} (xs : List E) → Walk J r u (xs ++ ys) → (w : N) × Walk J w u xs × Walk J r w ys
       part {u} [] k = (u, stop refl, k)
-      part (i ∷ xs) (step j k) = let s = part xs k in (s.0, step j s.1, s.2)
+      part {u} (i ∷ xs) (step {w} j k) = let s = part {u = w} xs k in (s.0, step j s.1, s.2)
 
   pub home-tail : {R : N → Type 0} {v : N} {i : E} {p : List E} → Home J R v (i ∷ p) → (w : N) × J i v w × Home J R w p
   home-tail {R} {v} {i} {p} h = go h.trail.walk h.trail.once
@@ -63,7 +63,7 @@ module _ {N E : Type 0} (dec : Discrete E) {J : Graph N E} (ed : Edges J) (flat 
           ends (inl e) = flat (closes dec ed i' j' (_, avoid i' (Fresh-head i' s.pre (i ∷ s.post) (subst (Fresh i') s.whole f')) (end-at (sym e.0) s.before)))
           ends (inr e) = flat (closes dec ed i j (Reach-sym (Only-edges (λ k. i ≢ k) ed) (_, avoid i (d, s.fresh) (step j' (end-at (sym e.1) s.before)))))
 
-  unique-walk : {u v : N} {p q : List E} → Walk J v u p → NoRepeat p → Walk J v u q → NoRepeat q → p ≡ q
+  unique-walk : {v u : N} {p q : List E} → Walk J v u p → NoRepeat p → Walk J v u q → NoRepeat q → p ≡ q
   unique-walk (stop e) n (stop d) m = refl
   unique-walk (stop e) n (step {u} {i} {p = q} j h) m = absurd (flat (record { start = u; first = i; rest = q; round = record { walk = step j (end-at (sym e) h); once = m } }))
   unique-walk (step {u} {i} {p = q} j h) n (stop e) m = absurd (flat (record { start = u; first = i; rest = q; round = record { walk = step j (end-at (sym e) h); once = n } }))
@@ -139,7 +139,7 @@ module _ {E : Type 0} where
   back_count mark (i ∷ p) = ap (count_of mark) (reverse-cons i p) ∙ omega (arith, count-append mark (reverse p) (i ∷ []), back_count mark p)
 
 module _ {N E : Type 0} {J : Graph N E} (ed : Edges J) where
-  walk-back : {u v : N} {p : List E} → Walk J v u p → Walk J u v (reverse p)
+  walk-back : {v u : N} {p : List E} → Walk J v u p → Walk J u v (reverse p)
   walk-back (stop e) = stop (sym e)
   walk-back (step {i} {p} j h) = rw reverse-cons (append (walk-back h) (step (ed.turn j) (stop refl)))
 

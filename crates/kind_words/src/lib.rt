@@ -37,13 +37,13 @@ pub fn width_of(kind: usize) -> u64 {
 
 // The kind that a letter stands for; 4 if it stands for none.
 pub fn kind_of(letter: u8) -> usize {
-    if letter == b'n' {
+    if letter == b'N' {
         0
-    } else if letter == b's' {
+    } else if letter == b'S' {
         1
-    } else if letter == b'l' {
+    } else if letter == b'L' {
         2
-    } else if letter == b'p' {
+    } else if letter == b'P' {
         3
     } else {
         4

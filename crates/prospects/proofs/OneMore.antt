@@ -17,7 +17,8 @@ use Rattle.tree.specs.Linked.{end_code}
 use Rattle.outage.proofs.Breakers.{code_same}
 use Rattle.sets.specs.Ways.{has, has-onward}
 use Rattle.sets.specs.Onward.{onward, way-onward}
-use Rattle.sets.specs.Sets.{upstream_at, weight_at, in_series_at, under_at, set-upstream, set-weight, set-in-series}
+use Rattle.sets.specs.Sets.{upstream_at, weight_at, in_series_at, under_at, set-in-series}
+use Rattle.sets.proofs.Sets.{set-upstream, set-weight}
 use Rattle.sets.specs.Apart.{ends-apart}
 use Rattle.relations.specs.Related.{relation}
 use Rattle.starts.proofs.OnEnds.{place_in}

@@ -17,7 +17,7 @@ pub enum Step {
 }
 
 // The letter of each kind.
-const LETTERS: [u8; 4] = [b'n', b's', b'l', b'p'];
+const LETTERS: [u8; 4] = [b'N', b'S', b'L', b'P'];
 
 // How many numbers each kind has.
 const WIDTHS: [usize; 4] = [8, 2, 5, 4];

@@ -21,7 +21,8 @@ use Rattle.buffer.specs.Fits.{end_in}
 use Rattle.tree.specs.Outwards.{near_end, feeder}
 use Rattle.sets.specs.Ways.{has, Way, has-onward}
 use Rattle.sets.specs.Onward.{onward, onward-first, way-onward}
-use Rattle.sets.specs.Stops.{first_place, passes-stop}
+use Rattle.sets.specs.Stops.{first_place}
+use Rattle.sets.proofs.Stops.{passes-stop}
 use Rattle.sets.specs.Apart.{place_ends, ends-apart}
 use Rattle.marks.specs.Held.{place_on, HoldsPlaces}
 use Rattle.paths.specs.Held.{HoldsFeeders, HoldsFirsts}

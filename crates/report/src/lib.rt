@@ -21,7 +21,7 @@ fn put_totals(net: &buffer::Net, total: u64, figure: u64, buf: &mut [u8]) -> usi
     ensures written { Written (line_a (network_in net.now)) buf.old buf.new result }
     ensures short { result ≤ 44 }
 {
-    text::put_line(buf, b'a', &[total, figure])
+    text::put_line(buf, b'A', &[total, figure])
 }
 
 // The F line of a line, with the impact of a fault and the outage amount; answers its length.
@@ -34,7 +34,7 @@ fn put_fault(net: &buffer::Net, impacts: &[u64; 768], line: usize, buf: &mut [u8
 {
     let impact = impacts[line - 1];
     let amount = outage::outage_amount(net, impacts, line).number();
-    text::put_line(buf, b'f', &[line as u64, impact, amount])
+    text::put_line(buf, b'F', &[line as u64, impact, amount])
 }
 
 // The F lines of all lines; answers their length.
@@ -66,7 +66,7 @@ fn put_outcome(spent: bool, visits: u64, count: usize, best: u64, buf: &mut [u8]
 {
     text::put_line(
         buf,
-        b'c',
+        b'C',
         &[finished_number(spent), visits, count as u64, best],
     )
 }
@@ -97,7 +97,7 @@ fn put_member(net: &buffer::Net, place: usize, buf: &mut [u8]) -> usize
 {
     let line = grid::place_line(net, place) as u64;
     let side = grid::place_side(net, place) as u64;
-    text::put_line(buf, b'b', &[line, side])
+    text::put_line(buf, b'B', &[line, side])
 }
 
 // The B lines of the first `count` places of `members`; answers their length.

@@ -15,7 +15,8 @@ use Rattle.model.specs.Sets.{place_at, with_breakers, allowed}
 use Rattle.savings.specs.Allowed.{sum-append}
 use Rattle.savings.specs.Breakers.{end_at}
 use Rattle.theory.specs.Reading.{Read}
-use Rattle.sets.specs.Sets.{in_series_at, set-series}
+use Rattle.sets.specs.Sets.{in_series_at}
+use Rattle.sets.proofs.Sets.{set-series}
 use Rattle.prospects.specs.Chosen.{Later}
 use Rattle.search.specs.Walking.{Trying}
 use Rattle.search.specs.declared.Current.{Current}

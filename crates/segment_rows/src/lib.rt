@@ -12,7 +12,7 @@ fn put_entry(table: &[u64], i: usize, out: &mut [u8]) -> usize
 {
     let from = 5 * i;
     let to = from + 5;
-    text::put_line(out, b't', &table[from..to])
+    text::put_line(out, b'T', &table[from..to])
 }
 
 // The T rows of the first entries of a segment table; answers their length.
@@ -33,6 +33,6 @@ pub fn put_table(table: &[u64], entries: usize, out: &mut [u8]) -> usize
     requires { (5 * entries ≤ length table.now) × (entries ≤ 1536) × (164375 ≤ length out.old) }
     ensures { Written (table_text entries table.now) out.old out.new result }
 {
-    let at = text::put_line(out, b'g', &[entries as u64]);
+    let at = text::put_line(out, b'G', &[entries as u64]);
     at + put_entries(table, entries, &mut out[at..])
 }

@@ -1,7 +1,7 @@
 -- The total and the series rule of every set of places of an accepted file, by its places: one after another, each with those before it.
 use Prim.Native.Nat.{ℕ, ◌+◌, ◌*◌, ◌-◌, ◌≤◌, ◌<◌}
-use Rattle.std.specs.Prelude.{◌≡◌, refl, Bool, true, false, ◌≢◌, ◌↔◌, length}
-use Rattle.std.proofs.Common.{sym, ◌∙◌, subst, true≢false, ⊎_elim, mul-add}
+use Rattle.std.specs.Prelude.{◌≡◌, false, ◌≢◌, length}
+use Rattle.std.proofs.Common.{sym, ◌∙◌, subst, ⊎_elim, mul-add}
 use Rattle.std.proofs.Math.Path.{ap}
 use mathlib.Core.List.Memᴰ
 use mathlib.Core.List.{List, [], ◌∷◌, ◌++◌, append_assoc, append-nil, Sublistᴰ, Memᴰ}
@@ -9,18 +9,16 @@ use Rattle.std.proofs.Math.Decide.{dec_le}
 use native.Mathlib.Omega.{arith}
 use Rattle.model.specs.Network.{Network}
 use Rattle.model.specs.Paths.{End, is_open}
-use Rattle.model.specs.Rules.{series_broken}
 use Rattle.model.specs.Outage.{customers_behind, total}
 use Rattle.model.specs.Sets.{place_numbers, with_breakers, set_total}
 use Rattle.graphs.specs.Graph.{NoRepeat}
 use Rattle.graphs.specs.Sum.{Fresh-not}
 use Rattle.savings.specs.Breakers.{end_at, Valid, valid-append}
 use Rattle.savings.specs.Totals.{breakers_with, set_total-falls}
-use Rattle.savings.specs.Allowed.{series-prefix}
 use Rattle.theory.specs.Behind.{none_of, numbers-once}
 use Rattle.theory.specs.Forest.{tree}
 use Rattle.theory.specs.Best.{Accepted, place-closed}
-use Rattle.sets.specs.Sets.{upstream_at, weight_at, in_series_at, set-total, set-series}
+use Rattle.sets.specs.Sets.{upstream_at, weight_at, in_series_at, set-total}
 use Rattle.sets.specs.Apart.{place-free}
 
 -- how much the total falls with the places of a list, behind a set
@@ -35,7 +33,7 @@ FewInSeries N S [] = Unit {0}
 FewInSeries N S (q ∷ later) = (in_series_at N S (end_at N q) < N.head.series) × FewInSeries N (S ++ (q ∷ [])) later
 
 -- each place of a list is on an end that is closed, and has no breaker with the places before it
-abbrev Free : Network → List ℕ → List ℕ → Type 0
+abbrev pub Free : Network → List ℕ → List ℕ → Type 0
 Free N S [] = Unit {0}
 Free N S (q ∷ later) = (is_open N (end_at N q) ≡ false) × (breakers_with N S (end_at N q) ≡ false) × Free N (S ++ (q ∷ [])) later
 
@@ -48,11 +46,6 @@ less w n k t u h e = go (dec_le k n)
     go (no l) =
         let m : k ≡ n + (k - n) = omega arith in
         omega (arith, e, h, ap (λ x. w * x) {x = n - k} {y = 0} (omega arith), ap (λ x. w * x) m ∙ mul-add w n (k - n))
-
--- what is not there with more is not there with less
-kept : (x y : Bool) → (x ≡ true → y ≡ true) → y ≡ false → x ≡ false
-kept true y f k = absurd (true≢false (sym (f refl) ∙ k))
-kept false y f k = refl
 
 module _ (N : Network) (a : Accepted N) where
   free_part : (before : List ℕ) {S places : List ℕ} → Sublistᴰ S places → NoRepeat places → ((p : ℕ) → Memᴰ p places → Memᴰ p (place_numbers N)) → ((p : ℕ) → Memᴰ p before → Memᴰ p (place_numbers N))
@@ -67,7 +60,7 @@ module _ (N : Network) (a : Accepted N) where
         (λ p b m n. ⊎_elim (f p b (Memᴰ.tail m)) (λ j i. Fresh-not _ p _ o.0 m (i ∙ Memᴰ.eq_of_singleton j ∙ e)) (Memᴰ.append_cases before n)),
   )
 
-  free-set : {S : List ℕ} → Sublistᴰ S (place_numbers N) → Free N [] S
+  pub free-set : {S : List ℕ} → Sublistᴰ S (place_numbers N) → Free N [] S
   unfolding place_numbers
   free-set s = free_part [] s (numbers-once 1 (length N.places)) (λ p m. m) (λ p m. absurd (Memᴰ.not-nil m)) (λ p b m n. absurd (Memᴰ.not-nil n))
 
@@ -90,28 +83,3 @@ module _ (N : Network) (a : Accepted N) where
   pub total-by-places : (S : List ℕ) → Sublistᴰ S (place_numbers N) → set_total N S + fallen N [] S ≡ total N
   unfolding set_total with_breakers
   total-by-places S s = total-behind [] S tt (free-set s)
-
-  free-valid : (before S : List ℕ) → Free N before S → Valid N S
-  free-valid before [] f = tt
-  free-valid before (q ∷ later) f = (f.0, free-valid (before ++ (q ∷ [])) later f.2)
-
-  series-behind : (before S : List ℕ) → Valid N before → Free N before S → series_broken (with_breakers N before) ≡ false
-      → (series_broken (with_breakers N (before ++ S)) ≡ false) ↔ FewInSeries N before S
-  series-behind before [] v f h = (λ _. tt, λ _. ap (λ T. series_broken (with_breakers N T)) (append-nil before) ∙ h)
-  series-behind before (q ∷ later) v f h =
-      let next : List ℕ = before ++ (q ∷ []) in
-      let w : Valid N next = valid-append N before (q ∷ []) v (f.0, tt) in
-      let one = set-series N a.read a.rules before v q f.0 f.1 in
-      let rest : series_broken (with_breakers N next) ≡ false → (series_broken (with_breakers N (next ++ later)) ≡ false) ↔ FewInSeries N next later
-      = λ m. series-behind next later w f.2 m in
-      let same : series_broken (with_breakers N (next ++ later)) ≡ series_broken (with_breakers N (before ++ (q ∷ later)))
-      = ap (λ T. series_broken (with_breakers N T)) (append_assoc before (q ∷ []) later) in (
-        λ k. let m = kept (series_broken (with_breakers N next)) (series_broken (with_breakers N (next ++ later))) (series-prefix N next later (valid-append N next later w (free-valid next later f.2))) (same ∙ k) in
-            ((one.0 m).1, (rest m).0 (same ∙ k)),
-        λ k. sym same ∙ (rest (one.1 (h, k.0))).1 k.1,
-      )
-
-  -- the series rule with a set of places: fewer than `series` breakers are in series with each, when it gets its own
-  pub series-by-places : (S : List ℕ) → Sublistᴰ S (place_numbers N) → (series_broken (with_breakers N S) ≡ false) ↔ FewInSeries N [] S
-  unfolding with_breakers
-  series-by-places S s = series-behind [] S tt (free-set s) a.series

@@ -1,5 +1,5 @@
 -- A set of places of a network that is read and keeps the rules, and one more place: its total, upstream breakers, weights and breakers in series.
-use Rattle.std.specs.Prelude.{ℕ, ◌+◌, ◌*◌, ◌≤◌, ◌<◌, max, ◌≡◌, Bool, ◌||◌, ◌≢◌, ◌↔◌, length}
+use Rattle.std.specs.Prelude.{ℕ, ◌+◌, ◌*◌, ◌≤◌, max, ◌≡◌, Bool, ◌||◌, ◌≢◌, ◌↔◌, length}
 use Rattle.std.proofs.Math.Path.{refl, ap, fun_ext}
 use Rattle.std.proofs.Common.{sym, ◌∙◌, subst, true≢false, arith}
 use Rattle.std.proofs.Math.Bool.{true, false, or-false}
@@ -10,7 +10,6 @@ use Rattle.model.specs.Paths.{Vertex, station, line, End, same_end, state, is_op
 use Rattle.model.specs.Rules.{breakers_on, series_broken}
 use Rattle.model.specs.Outage.{path_to_hv, no_end, customers_behind}
 use Rattle.model.specs.Sets.{with_breakers, set_total}
-use Rattle.graphs.specs.Sum.{on}
 use Rattle.graphs.specs.Tree.{count_of}
 use Rattle.savings.specs.Facts.{same_end-eq}
 use Rattle.savings.specs.First.{this}
@@ -24,10 +23,10 @@ use Rattle.theory.specs.Above.{breakers-count, series-above}
 use Rattle.theory.specs.Gathering.{sum-map-over}
 use Rattle.theory.specs.Behind.{vertices, listed_in}
 use Rattle.theory.specs.With.{with_read, with-rules}
-use Rattle.sets.specs.Ways.{has, with, Way, upstream, under, upstream-with}
-use Rattle.sets.specs.Weights.{weight, total-with, weight-with}
-use Rattle.sets.specs.InSeries.{in-series, series-with, in-series-with}
-use Rattle.sets.specs.Onward.{onward, way, way-onward, behind-end}
+use Rattle.sets.specs.Ways.{has, with, Way, upstream, under}
+use Rattle.sets.specs.Weights.{weight, total-with}
+use Rattle.sets.specs.InSeries.{in-series, in-series-with}
+use Rattle.sets.specs.Onward.{onward, way, behind-end}
 
 module _ (N : Network) where
   -- the path and the weight of a line
@@ -64,7 +63,7 @@ module _ (N : Network) where
       go false h ih = ih
 
   -- the breakers of a set with one more place
-  breakers-one : (S : List ℕ) (q : ℕ) → breakers_with N (S ++ (q ∷ [])) ≡ with (breakers_with N S) (end_at N q)
+  pub breakers-one : (S : List ℕ) (q : ℕ) → breakers_with N (S ++ (q ∷ [])) ≡ with (breakers_with N S) (end_at N q)
   unfolding any
   breakers-one S q = fun_ext (λ e. breakers_with-append N S (q ∷ []) e ∙ ap (λ b. breakers_with N S e || b) (or-false (same_end e (end_at N q))))
 
@@ -123,30 +122,9 @@ module _ (N : Network) (d : Read N) (r : Rules N) where
       total-with (route N) (load N) (onward N) B e (no-breaker N S v) f (λ d. customers_behind N d) (lines N) line-ways,
     )
 
-    -- the breaker upstream of an end: the new one, where the end is under it
-    pub set-upstream : (p : End) → is_open N p ≡ false → upstream_at N (S ++ (q ∷ [])) p ≡ this (under_at N S p e) e (upstream_at N S p)
-    set-upstream p o = ap (λ C. upstream (onward N) C p) (breakers-one N S q) ∙ upstream-with (onward N) B p e (no-breaker N S v) f (way-onward N d r p o)
-
-    -- the weight of an end: less that of the place, where the place is under it
-    pub set-weight : (p : End) → B p ≡ false → weight_at N (S ++ (q ∷ [])) p + on (under_at N S e p) (weight_at N S e) ≡ weight_at N S p
-    set-weight p g =
-        ap (λ C. weight (route N) (load N) (lines N) C p + on (under_at N S e p) (weight_at N S e)) (breakers-one N S q)
-        ∙ weight-with (route N) (load N) (onward N) B e (no-breaker N S v) f p g (way-onward N d r e c) (lines N) line-ways
-
     -- the most breakers in series with an end
     pub set-in-series : (p : End) → is_open N p ≡ false → p ≢ e
         → in_series_at N (S ++ (q ∷ [])) p ≡ this (has e (onward N p)) (in_series_at N S p + 1) (this (has p (onward N e)) (max (in_series_at N S p) (in_series_at N S e + 1)) (in_series_at N S p))
     set-in-series p o n =
         ap (λ C. in-series (path_to_hv N) (vertices N) C p) (breakers-one N S q)
         ∙ in-series-with (path_to_hv N) (onward N) (vertices N) vertex-ways B e f p n (behind-end N d r p o) (behind-end N d r e c)
-
-    -- the series rule: it held, and fewer than `series` are in series with the place
-    pub set-series : (series_broken (with_breakers N (S ++ (q ∷ []))) ≡ false) ↔ ((series_broken (with_breakers N S) ≡ false) × (in_series_at N S e < N.head.series))
-    set-series =
-        let old = series-set S v in
-        let new = series-set (S ++ (q ∷ [])) (valid-append N S (q ∷ []) v (c, tt)) in
-        let both = series-with (path_to_hv N) (onward N) (vertices N) vertex-ways B e f N.head.series (behind-end N d r e c) in
-        let one = breakers-one N S q in (
-          λ h. let x = both.0 (λ u m. subst (λ C. count_of C (path_to_hv N u) ≤ N.head.series) one (new.0 h u m)) in (old.1 x.0, x.1),
-          λ h. new.1 (λ u m. subst (λ C. count_of C (path_to_hv N u) ≤ N.head.series) (sym one) (both.1 (old.0 h.0, h.1) u m)),
-        )

@@ -1,5 +1,5 @@
 -- An accepted file's places before any is chosen: the breakers upstream of them, their weights and the breakers in series with them.
-use Rattle.std.specs.Prelude.{ℕ, ◌≡◌, Bool, ◌||◌}
+use Rattle.std.specs.Prelude.{ℕ, ◌≡◌, Bool}
 use Rattle.std.proofs.Math.Path.{refl, ap, fun_ext}
 use Rattle.std.proofs.Common.{sym, ◌∙◌}
 use Rattle.std.proofs.Math.Bool.{true, false, or-false}
@@ -10,23 +10,21 @@ use Rattle.model.specs.Network.{Network}
 use Rattle.model.specs.Paths.{line, End, same_end, state, is_breaker, is_open}
 use Rattle.model.specs.Outage.{path_to_hv, no_end, tripped}
 use Rattle.model.specs.Sets.{place_numbers}
-use Rattle.graphs.specs.Sum.{on, sum_over}
 use Rattle.savings.specs.Facts.{same_end-eq, same_end-refl}
 use Rattle.savings.specs.Breakers.{end_at}
 use Rattle.savings.specs.Totals.{breakers_with}
 use Rattle.theory.specs.Ends.{any-in, any_out}
-use Rattle.theory.specs.Behind.{sum-map, vertices}
+use Rattle.theory.specs.Behind.{vertices}
 use Rattle.theory.specs.Best.{Accepted, place-closed}
 use Rattle.sets.specs.Ways.{has}
-use Rattle.sets.specs.InSeries.{most, most-map}
-use Rattle.sets.specs.Stops.{own, weight-stops, own_in_series, in-series-stops}
-use Rattle.sets.specs.Onward.{onward, upstream-line}
-use Rattle.sets.specs.Sets.{route, load, lines, weight_at, upstream_at, under_at, in_series_at, no-breaker, line-ways, vertex-ways}
-use Rattle.sets.specs.Apart.{place_ends, ends-once, place-free}
+use Rattle.sets.specs.Stops.{own, own_in_series}
+use Rattle.sets.specs.Onward.{upstream-line}
+use Rattle.sets.specs.Sets.{route, load, lines, upstream_at}
+use Rattle.sets.specs.Apart.{place_ends, place-free}
 
 -- the weight of all lines whose path meets an end first, of those with a breaker or a place
-abbrev pub field_own : Network → End → ℕ
-field_own N e = own (route N) (load N) (lines N) (breakers_with N []) (place_ends N) e
+abbrev pub own_at : Network → End → ℕ
+own_at N e = own (route N) (load N) (lines N) (breakers_with N []) (place_ends N) e
 
 -- the most breakers on a path that meets an end first, of those with a place
 abbrev pub own_in_series_at : Network → End → ℕ
@@ -51,7 +49,7 @@ module _ (N : Network) (a : Accepted N) where
       go true h = let x = place_of no_end h in ap (λ e. is_open N e) (sym x.2) ∙ place-closed N a x.0 x.1
       go false h = refl
 
-  place-listed : (p : ℕ) → Memᴰ p (place_numbers N) → has (end_at N p) (place_ends N) ≡ true
+  pub place-listed : (p : ℕ) → Memᴰ p (place_numbers N) → has (end_at N p) (place_ends N) ≡ true
   place-listed p m = any-in (λ d. same_end d (end_at N p)) (end_at N p) (place_ends N) (Memᴰ.map (λ p. end_at N p) m) (same_end-refl (end_at N p))
 
   -- the breaker upstream of a place is the one that trips for a fault on its line
@@ -60,18 +58,3 @@ module _ (N : Network) (a : Accepted N) where
   start-upstream p m =
       upstream-line N (breakers_with N []) (end_at N p) (place-free-of (end_at N p) (place-listed p m))
       ∙ ap (λ B. first_or no_end B (path_to_hv N (line (end_at N p).line))) (fun_ext (λ e. or-false (is_breaker N e)))
-
-  -- a place's weight is the sum of what is its own and of what is that of the places under it
-  pub start-weight : (p : ℕ) → Memᴰ p (place_numbers N)
-      → weight_at N [] (end_at N p) ≡ sum_over (λ s. on (same_end (end_at N s) (end_at N p) || under_at N [] (end_at N s) (end_at N p)) (field_own N (end_at N s))) (place_numbers N)
-  start-weight p m =
-      weight-stops (onward N) (breakers_with N []) (no-breaker N [] tt) (place_ends N) place-free-of no_place (end_at N p)
-      (place-listed p m) (ends-once N a) (route N) (load N) (lines N) (line-ways N a.read a.rules)
-      ∙ sum-map _ (λ s. end_at N s) (place_numbers N)
-
-  -- the most breakers in series with a place, from the paths that meet it or a place behind it first
-  pub start-in-series : (p : ℕ) → Memᴰ p (place_numbers N)
-      → in_series_at N [] (end_at N p) ≡ most (λ s. same_end (end_at N s) (end_at N p) || has (end_at N p) (onward N (end_at N s))) (λ s. own_in_series_at N (end_at N s)) (place_numbers N)
-  start-in-series p m =
-      in-series-stops (onward N) (place_ends N) no_place (end_at N p) (place-listed p m) (breakers_with N []) (path_to_hv N) (vertices N) (vertex-ways N a.read a.rules)
-      ∙ most-map _ (own_in_series_at N) (λ s. end_at N s) (place_numbers N)

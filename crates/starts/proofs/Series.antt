@@ -12,7 +12,7 @@ use Rattle.graphs.specs.Sum.{on}
 use Rattle.savings.specs.Breakers.{end_at}
 use Rattle.theory.specs.Best.{Accepted}
 use Rattle.sets.specs.Sets.{in_series_at}
-use Rattle.sets.specs.Start.{start-in-series}
+use Rattle.sets.proofs.Start.{start-in-series}
 use Rattle.relations.specs.Related.{HoldsRelations}
 use Rattle.starts.specs.Own.{HoldsOwnInSeries, behind_in}
 use Rattle.starts.proofs.Numbers.{most_from, most-first, most-all, most-ext}

@@ -14,7 +14,7 @@ use Rattle.savings.specs.Totals.{breakers_with}
 use Rattle.theory.specs.Best.{Accepted}
 use Rattle.sets.specs.Ways.{covers}
 use Rattle.sets.specs.Sets.{route, weight_at}
-use Rattle.sets.specs.Start.{start-weight}
+use Rattle.sets.proofs.Start.{start-weight}
 use Rattle.relations.specs.Related.{HoldsRelations}
 use Rattle.starts.specs.Own.{HoldsOwn, HoldsUpstreams, under_in}
 use Rattle.theory.specs.Gathering.{sum_from, sum-all, sum_first}

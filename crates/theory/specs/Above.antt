@@ -37,7 +37,7 @@ module _ (N : Network) (d : Read N) (r : Rules N) where
   table-path t k v i e = path-only N d r i (climb-home (joins-edges N) t k v i e)
 
   -- where a path from a vertex of the file leads
-  walk-in : {u v : Vertex} {es : List End} → In N u → Walk (Joins N) v u es → In N v
+  walk-in : {v u : Vertex} {es : List End} → In N u → Walk (Joins N) v u es → In N v
   walk-in i (stop p) = subst (In N) p i
   walk-in i (step {u} {i = e} {w} j k) = walk-in (joins-in N d e w u ((joins-edges N).turn j)) k
 

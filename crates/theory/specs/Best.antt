@@ -17,7 +17,7 @@ use Rattle.savings.specs.Totals.{set_total-bound}
 use Rattle.savings.specs.Allowed.{allowed-prefix, allowed-few, allowed-none}
 use Rattle.walks.specs.Order.{numbers-rising}
 use Rattle.walks.specs.Claims.{Asks, Fine, Answers}
-use Rattle.walks.specs.Answer.{walk-answers}
+use Rattle.walks.proofs.Answer.{walk-answers}
 use Rattle.theory.specs.Reading.{All, OnPlain, InOrder, Read, in-turn, network-read}
 use Rattle.theory.specs.Ends.{numbers-in}
 use Rattle.theory.specs.Radial.{Rules, radial-rules, numbered-in}

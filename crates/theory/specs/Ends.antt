@@ -216,7 +216,7 @@ module _ (N : Network) where
   apart_none (e ∷ es) = (tt, apart_none es)
 
   -- where a walk over closed ends leads
-  pub walk_target : {u v : Vertex} {es : List End} → Walk (Joins N) v u es → target N u es ≡ v
+  pub walk_target : {v u : Vertex} {es : List End} → Walk (Joins N) v u es → target N u es ≡ v
   unfolding target
   walk_target (stop p) = p
   walk_target (step {p = es} j w) = ap (λ x. target N x es) (joins_at j).1 ∙ walk_target w
@@ -257,7 +257,7 @@ module _ (N : Network) where
       (Memᴰ.map (λ es. e ∷ es)
       (subst (λ y. Memᴰ es (paths_from N (closed_ends N) most (e ∷ used) y)) (sym x.1) (complete-from most (e ∷ used) w n.1 (apart_more e used es n.0 a.1) (omega arith)))))
 
-  pub walk-closed : {u v : Vertex} {es : List End} → Walk (Joins N) v u es → (e : End) → Memᴰ e es → Memᴰ e (closed_ends N)
+  pub walk-closed : {v u : Vertex} {es : List End} → Walk (Joins N) v u es → (e : End) → Memᴰ e es → Memᴰ e (closed_ends N)
   walk-closed (stop p) e m = absurd (Memᴰ.not-nil m)
   walk-closed (step {i = d} j w) e m = ⊎_elim (λ p. subst (λ x. Memᴰ x (closed_ends N)) (sym p) (in-closed d (joins-closed j))) (λ k. walk-closed w e k) (Memᴰ.cases_cons m)
 

@@ -4,7 +4,8 @@ use Rattle.std.proofs.Common.{arith}
 use Rattle.model.specs.Network.{Network}
 use Rattle.model.specs.Sets.{allowed, set_total, saving, place_numbers, allowed_sets, allowed_count}
 use Rattle.model.specs.Walk.{Found, search}
-use Rattle.walks.specs.Limits.{Limited, walk-limited}
+use Rattle.walks.specs.Limits.{Limited}
+use Rattle.walks.proofs.Limits.{walk-limited}
 use Rattle.theory.specs.Best.{Accepted, walk_within, within-answers}
 
 -- The walk without a limit. The number of allowed sets stands in for one: an accepted file's walk is not spent at it.

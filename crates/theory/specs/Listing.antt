@@ -6,7 +6,8 @@ use Rattle.model.specs.Sets.{place_numbers, allowed, allowed_sets}
 use Rattle.model.specs.Demand.{AllowedSet}
 use Rattle.savings.specs.Allowed.{allowed-few}
 use Rattle.walks.specs.Order.{numbers-rising}
-use Rattle.walks.specs.Listing.{kept-are, kept-once}
+use Rattle.walks.specs.Listing.{kept-are}
+use Rattle.walks.proofs.Listing.{kept-once}
 use Rattle.theory.specs.Best.{fine, allowed-set}
 
 -- It lists just the allowed sets,

@@ -6,5 +6,4 @@ pub mod Claims
 pub mod Runs
 pub mod Listing
 pub mod Visits
-pub mod Answer
 pub mod Limits

@@ -3,9 +3,9 @@ use Rattle.std.specs.Prelude.{◌≡◌, Bool, true, false, ◌↔◌}
 use Rattle.std.proofs.Math.Path.{refl}
 use Rattle.std.proofs.Common.{sym, ap, ◌∙◌, true≢false}
 use mathlib.Core.List.{List, [], ◌∷◌, ◌++◌}
-use Prim.Native.Nat.{ℕ, zero, suc, ◌≤◌, ◌<◌, min, zero-le}
+use Prim.Native.Nat.{ℕ, zero, suc, ◌≤◌, ◌<◌, min}
 use native.Mathlib.Omega.{arith}
-use Rattle.model.specs.Walk.{Found, visit, hopeless, extend, start, walk}
+use Rattle.model.specs.Walk.{Found, visit, hopeless, extend}
 use Rattle.walks.specs.Runs.{on_both, on-pairs, extend-spent}
 use Rattle.walks.specs.Visits.{Saw, full, better, other, saw}
 
@@ -54,7 +54,7 @@ module _ (total_of : List ℕ → ℕ) (is_allowed : List ℕ → Bool) (saving_
 
   module _ (limit enough : ℕ) where
     -- The two walks side by side: still the same, or the first is spent and the other past its limit, or the other is spent.
-    data Beside (f g : Found) : Type 0 where
+    pub data Beside (f g : Found) : Type 0 where
       same : f ≡ g → f.spent ≡ false → f.visits ≤ limit → Beside f g
       past : f.spent ≡ true → f.visits ≡ limit → limit < g.visits → Beside f g
       over : g.spent ≡ true → Beside f g
@@ -68,10 +68,10 @@ module _ (total_of : List ℕ → ℕ) (is_allowed : List ℕ → Bool) (saving_
     saw-beside (other e h) (better d k) u l = absurd (omega arith)
     saw-beside (other e h) (other d k) u l = same refl u (omega arith)
 
-    visit-beside : (S : List ℕ) (f : Found) → f.spent ≡ false → f.visits ≤ limit → Beside (Visit limit S f) (Visit enough S f)
+    pub visit-beside : (S : List ℕ) (f : Found) → f.spent ≡ false → f.visits ≤ limit → Beside (Visit limit S f) (Visit enough S f)
     visit-beside S f = saw-beside (saws limit S f) (saws enough S f)
 
-    extend-beside : (r : ℕ) (S later : List ℕ) {f g : Found} → Beside f g → Beside (Extend limit r S later f) (Extend enough r S later g)
+    pub extend-beside : (r : ℕ) (S later : List ℕ) {f g : Found} → Beside f g → Beside (Extend limit r S later f) (Extend enough r S later g)
     unfolding extend hopeless
     extend-beside r S [] b = b
     extend-beside zero S (q ∷ later) b = b
@@ -89,7 +89,7 @@ module _ (total_of : List ℕ → ℕ) (is_allowed : List ℕ → Bool) (saving_
     extend-beside (suc r) S (q ∷ later) {g = g} (over s) =
         rw (extend-spent enough total_of is_allowed saving_of r S q later g s) (over s)
 
-    limited : {f g : Found} → Beside f g → g.spent ≡ false → Limited limit f g
+    pub limited : {f g : Found} → Beside f g → g.spent ≡ false → Limited limit f g
     limited (same e u l) t = record {
       spent_when = (λ s. absurd (true≢false (sym s ∙ u)), λ k. absurd (omega (arith, ap (λ h. h.visits) e)));
       visits_are = omega (arith, ap (λ h. h.visits) e);
@@ -101,10 +101,3 @@ module _ (total_of : List ℕ → ℕ) (is_allowed : List ℕ → Bool) (saving_
       found_same = λ e. absurd (true≢false (sym s ∙ e));
     }
     limited (over s) t = absurd (true≢false (sym s ∙ t))
-
-    -- The walk with any limit, beside the same walk with a limit at which it is not spent.
-    pub walk-limited : (adds : ℕ) (places : List ℕ) → (walk enough total_of is_allowed saving_of adds places).spent ≡ false
-        → Limited limit (walk limit total_of is_allowed saving_of adds places) (walk enough total_of is_allowed saving_of adds places)
-    unfolding walk start
-    walk-limited adds places =
-        limited (extend-beside adds [] places (visit-beside [] (start limit total_of is_allowed saving_of) refl zero-le))

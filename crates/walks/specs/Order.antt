@@ -6,7 +6,7 @@ use mathlib.Core.List.Memᴰ
 use mathlib.Core.List.{Memᴰ}
 use Rattle.std.proofs.Math.Seq.{append_snoc}
 use Rattle.model.specs.Lists.{numbers}
-use Rattle.model.specs.Sets.{extensions, sets_up_to}
+use Rattle.model.specs.Sets.{extensions}
 use Rattle.model.specs.Demand.{Before, extended, smaller, further}
 use Rattle.walks.specs.Sets.{extensions-extend}
 
@@ -52,6 +52,7 @@ numbers-rising from (suc count) = ((λ p m. omega (arith, numbers-from (from + 1
 
 -- no set is before itself
 pub before-irrefl : (S : List ℕ) → Before S S → ⊥
+before-irrefl [] x = elim x [ ]
 before-irrefl (p ∷ S) (smaller h) = omega arith
 before-irrefl (p ∷ S) (further e h) = before-irrefl S h
 
@@ -61,7 +62,7 @@ before-joined [] h = h
 before-joined (p ∷ S) h = further refl (before-joined S h)
 
 -- The extensions with the first of the places are before those without it.
-extensions-ordered : (r : ℕ) (S later : List ℕ) → Rising later → Ordered (extensions r S later)
+pub extensions-ordered : (r : ℕ) (S later : List ℕ) → Rising later → Ordered (extensions r S later)
 unfolding extensions
 extensions-ordered r S [] x = tt
 extensions-ordered zero S (q ∷ later) x = tt
@@ -88,11 +89,3 @@ extensions-ordered (suc r) S (q ∷ later) x = (
     between U W m n =
         let y = extensions-extend r T later U m in
         rw (y.joined ∙ append_snoc S q (y.next ∷ y.rest)) (last W (y.next ∷ y.rest) n)
-
--- each listed set is before all later ones
-pub sets-ordered : (most : ℕ) (places : List ℕ) → Rising places → Ordered (sets_up_to most places)
-unfolding sets_up_to
-sets-ordered most places x = (
-  (λ S m. let y = extensions-extend most [] places S m in rw y.joined extended),
-  extensions-ordered most [] places x,
-)

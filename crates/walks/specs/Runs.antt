@@ -1,18 +1,16 @@
 -- The walk goes through the list of all sets in order: it visits a set, or passes over one that changes nothing.
 use Rattle.std.specs.Prelude.{◌≡◌, Bool, true, false, ◌⊎◌}
 use Rattle.std.proofs.Math.Path.{refl}
-use Rattle.std.proofs.Common.{sym, subst, ◌∙◌, true≢false, inl}
+use Rattle.std.proofs.Common.{sym, ◌∙◌, true≢false}
 use Rattle.std.proofs.Math.Logic.{inr}
 use mathlib.Core.List.{List, [], ◌∷◌, ◌++◌, map, Sublistᴰ}
 use mathlib.Core.List.{Memᴰ}
-use Prim.Native.Nat.{ℕ, zero, suc, ◌+◌, ◌≤◌}
+use Prim.Native.Nat.{ℕ, suc, ◌+◌, ◌≤◌}
 use native.Mathlib.Omega.{arith}
-use Rattle.std.proofs.Math.Seq.{append_snoc}
 use borrow.Author.Tests.{leb-true}
-use Rattle.model.specs.Sets.{extensions}
 use Rattle.model.specs.Walk.{Found, largest, visit, hopeless, extend}
 use Rattle.walks.specs.Largest.{sum-largest}
-use Rattle.walks.specs.Sets.{Extends, extensions-extend}
+use Rattle.walks.specs.Sets.{Extends}
 use Rattle.walks.specs.Claims.{Asks}
 
 -- a branch on a test whose value is known
@@ -75,23 +73,23 @@ module _ (limit : ℕ) (total_of : List ℕ → ℕ) (is_allowed : List ℕ → 
     step : {f g : Found} {S : List ℕ} {l : List (List ℕ)} → is_allowed S ≡ true → f.spent ≡ false → Run (Visit S f) l g → Run f (S ∷ l) g
 
   -- two lists, one after the other
-  run-append : {f g h : Found} {l m : List (List ℕ)} → Run f l g → Run g m h → Run f (l ++ m) h
+  pub run-append : {f g h : Found} {l m : List (List ℕ)} → Run f l g → Run g m h → Run f (l ++ m) h
   run-append done t = t
   run-append (pass i s) t = pass i (run-append s t)
   run-append (step a u s) t = step a u (run-append s t)
 
   -- a list of sets that change nothing
-  run-idle : (f : Found) (l : List (List ℕ)) → ((S : List ℕ) → Memᴰ S l → Idle f S) → Run f l f
+  pub run-idle : (f : Found) (l : List (List ℕ)) → ((S : List ℕ) → Memᴰ S l → Idle f S) → Run f l f
   run-idle f [] h = done
   run-idle f (S ∷ l) h = pass (h S (Memᴰ.head refl)) (run-idle f l (λ T m. h T (Memᴰ.tail m)))
 
   module _ (adds : ℕ) (places : List ℕ) (asks : Asks total_of is_allowed saving_of adds places) where
     -- `S` with any of `later` behind it is a set of places
-    abbrev Inside : List ℕ → List ℕ → Type 0
+    abbrev pub Inside : List ℕ → List ℕ → Type 0
     Inside S later = (U : List ℕ) → Sublistᴰ U later → Sublistᴰ (S ++ U) places
 
     -- a hopeless set has no allowed extension with a total below the best
-    hopeless-idle : (r : ℕ) (S later : List ℕ) (f : Found) → Inside S later → Hopeless r S later f ≡ true
+    pub hopeless-idle : (r : ℕ) (S later : List ℕ) (f : Found) → Inside S later → Hopeless r S later f ≡ true
         → (T : List ℕ) → Extends r S later T → Idle f T
     unfolding hopeless
     hopeless-idle r S later f i e T x a =
@@ -105,48 +103,8 @@ module _ (limit : ℕ) (total_of : List ℕ → ℕ) (is_allowed : List ℕ → 
         )))
 
     -- a set that is not allowed has no allowed extension
-    barred-idle : (r : ℕ) (S later : List ℕ) (f : Found) → Inside S later → is_allowed S ≡ false
+    pub barred-idle : (r : ℕ) (S later : List ℕ) (f : Found) → Inside S later → is_allowed S ≡ false
         → (T : List ℕ) → Extends r S later T → Idle f T
     barred-idle r S later f i e T x a =
         let U = x.next ∷ x.rest in
         absurd (true≢false (sym (asks.part S U (i U x.within) (rw x.joined at a)) ∙ e))
-
-    -- The walk over the extensions of `S` goes through all of them.
-    pub extend-runs : (r : ℕ) (S later : List ℕ) → Inside S later → (f : Found) → Run f (extensions r S later) (Extend r S later f)
-    unfolding extend extensions
-    extend-runs r S [] i f = done
-    extend-runs zero S (q ∷ later) i f = done
-    extend-runs (suc r) S (q ∷ later) i f =
-        go (extend-runs r T later deeper (Visit T f)) (extend-runs (suc r) S later (λ U w. i U (Sublistᴰ.cons w)))
-        f.spent refl (Hopeless (suc r) S (q ∷ later) f) refl (is_allowed T) refl
-      where
-        T : List ℕ
-        T = S ++ (q ∷ [])
-
-        own : List (List ℕ)
-        own = extensions r T later
-
-        all : List (List ℕ)
-        all = T ∷ (own ++ extensions (suc r) S later)
-
-        deeper : Inside T later
-        deeper U w = rw append_snoc (i (q ∷ U) (Sublistᴰ.cons-cons refl w))
-
-        go : Run (Visit T f) own (Extend r T later (Visit T f))
-            → ((g : Found) → Run g (extensions (suc r) S later) (Extend (suc r) S later g))
-            → (a : Bool) → f.spent ≡ a
-            → (b : Bool) → Hopeless (suc r) S (q ∷ later) f ≡ b
-            → (c : Bool) → is_allowed T ≡ c
-            → Run f all (Extend (suc r) S (q ∷ later) f)
-        go below beside true ea b eb c ec =
-            subst (Run f all) (sym (extend-spent r S q later f ea)) (run-idle f all (λ U m h. inl ea))
-        go below beside false ea true eb c ec =
-            subst (Run f all) (sym (extend-hopeless r S q later f ea eb))
-            (run-idle f all (λ U m. hopeless-idle (suc r) S (q ∷ later) f i eb U (extensions-extend (suc r) S (q ∷ later) U m)))
-        go below beside false ea false eb true ec =
-            subst (Run f all) (sym (extend-allowed r S q later f ea eb ec))
-            (step ec ea (run-append below (beside (Extend r T later (Visit T f)))))
-        go below beside false ea false eb false ec =
-            subst (Run f all) (sym (extend-barred r S q later f ea eb ec))
-            (pass (λ h. absurd (true≢false (sym h ∙ ec)))
-            (run-append (run-idle f own (λ U m. barred-idle r T later f deeper ec U (extensions-extend r T later U m))) (beside f)))

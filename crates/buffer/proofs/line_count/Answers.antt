@@ -1,0 +1,7 @@
+use mathlib.Core.Path.{sym}
+use Rattle.buffer.specs.Fields.{line-count}
+use borrow.Author.Rules.{rules}
+use Rattle.buffer.proofs.line_count.Goals as goal
+
+pub returns : goal.returns
+returns c = let a = c.args in sym (line-count a.net.now)

@@ -1,0 +1,12 @@
+use mathlib.Core.Path.{sym, ◌∙◌}
+use borrow.Author.Rules.{rules}
+use Rattle.model.specs.Rules.{both_open}
+use Rattle.end_rules.proofs.both_open.Goals as goal
+
+pub returns-then-is_open : goal.returns-then-is_open
+unfolding both_open
+returns-then-is_open c = rw (sym c.is_open.ensures ∙ c.if-is_open.true) c.is_open-then-is_open.ensures
+
+pub returns-else-is_open : goal.returns-else-is_open
+unfolding both_open
+returns-else-is_open c = rw (sym c.is_open.ensures ∙ c.if-is_open.false) c.if-is_open.false

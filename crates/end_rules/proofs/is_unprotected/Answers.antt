@@ -1,0 +1,18 @@
+use mathlib.Core.Path.{sym, ◌∙◌}
+use borrow.Author.Rules.{rules}
+use Rattle.model.specs.Rules.{unprotected}
+use Rattle.end_rules.proofs.is_unprotected.Goals as goal
+
+pub returns-then-is_plain_at_hv : goal.returns-then-is_plain_at_hv
+unfolding unprotected
+returns-then-is_plain_at_hv c = rw (sym c.is_plain_at_hv.ensures ∙ c.if-is_plain_at_hv.true) c.if-is_plain_at_hv.true
+
+pub returns-else-is_plain_at_hv : goal.returns-else-is_plain_at_hv
+unfolding unprotected
+returns-else-is_plain_at_hv c = rw (sym c.is_plain_at_hv.ensures ∙ c.if-is_plain_at_hv.false) c.is_plain_at_hv-else-is_plain_at_hv.ensures
+
+pub is_plain_at_hv-requires : goal.is_plain_at_hv-requires
+is_plain_at_hv-requires c = search rules
+
+pub is_plain_at_hv-requires-else-is_plain_at_hv : goal.is_plain_at_hv-requires-else-is_plain_at_hv
+is_plain_at_hv-requires-else-is_plain_at_hv c = search rules

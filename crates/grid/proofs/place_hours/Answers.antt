@@ -1,0 +1,12 @@
+use mathlib.Core.Path.{sym, refl}
+use Rattle.buffer.specs.Fields.{place-number}
+use Prim.Native.Nat.{◌+◌}
+use native.Mathlib.Omega.{arith}
+use Rattle.model.specs.Network.{Place, place_of}
+use Rattle.buffer.specs.Buffer.{place_from, hours_in_place}
+use borrow.Author.Rules.{rules}
+use Rattle.grid.proofs.place_hours.Goals as goal
+
+pub returns : goal.returns
+unfolding place_of
+returns c = let a = c.args in sym (place-number a.net.now a.place (search rules) (search rules) (λ (p : Place). p.hours) hours_in_place (place_from a.place + hours_in_place) (λ vs. refl) (omega arith) (omega arith))

@@ -1,0 +1,14 @@
+use borrow.Author.Rules.{rules}
+use Prim.Native.Nat.{◌≤◌}
+use mathlib.Core.Path.{◌≡◌, sym, subst}
+use native.Mathlib.Omega.{arith}
+use lib.ListN.{length, length-set}
+use Rattle.buffer.specs.Buffer.{network_in}
+use Rattle.marks.proofs.Marking.{MarksAbove, marks-none, marks-next, marks-all}
+use Rattle.marks.proofs.fill_places.Given as goal
+
+abbrev pub invariant-loop-marks : goal.invariant-loop-marks
+invariant-loop-marks l = (l.place ≤ length (network_in l.net).places) × (length l.marks ≡ 1537) × MarksAbove (network_in l.net) l.marks l.place
+
+abbrev pub decreases-loop-marks : goal.decreases-loop-marks
+decreases-loop-marks l = l.place

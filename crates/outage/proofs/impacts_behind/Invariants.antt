@@ -1,0 +1,15 @@
+use borrow.Author.Rules.{rules}
+use Prim.Native.Nat.{◌-◌, ◌≤◌}
+use mathlib.Core.Path.{◌≡◌, refl}
+use native.Mathlib.Omega.{arith}
+use lib.ListN.{length, length-set}
+use Rattle.buffer.specs.Buffer.{network_in}
+use Rattle.tree.proofs.Fitting.{read_fits}
+use Rattle.outage.proofs.Breakers.{trip-in, trip-impact, Upto, upto-more}
+use Rattle.outage.proofs.impacts_behind.Given as goal
+
+abbrev pub invariant-loop-i : goal.invariant-loop-i
+invariant-loop-i l = (l.i-end ≡ length (network_in l.net).lines) × (l.i-end ≤ 768) × (l.i ≤ l.i-end) × (length l.out ≡ length l.initial.out) × Upto (network_in l.net) l.out l.i
+
+abbrev pub decreases-loop-i : goal.decreases-loop-i
+decreases-loop-i l = l.i-end - l.i

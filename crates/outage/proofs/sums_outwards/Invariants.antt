@@ -1,0 +1,20 @@
+use borrow.Author.Rules.{rules}
+use Prim.Native.Nat.{◌+◌, ◌*◌, ◌-◌, ◌≤◌}
+use mathlib.Core.Path.{◌≡◌, refl, sym, ap, ◌∙◌, subst}
+use mathlib.Core.Logic.{⊎_elim}
+use native.Mathlib.Omega.{arith}
+use lib.ListN.{length}
+use Rattle.buffer.specs.Buffer.{network_in}
+use Rattle.tree.specs.Linked.{code_end}
+use Rattle.outage.specs.Below.{Filled}
+use Rattle.outage.proofs.Paths.{at-hv}
+use Rattle.tree.proofs.Lengths.{closed-length}
+use Rattle.tree.proofs.Fitting.{read_fits}
+use Rattle.outage.proofs.HVStations.{AtHV, hv-none, hv-skip, hv-more, hv-all}
+use Rattle.outage.proofs.sums_outwards.Given as goal
+
+abbrev pub invariant-loop-station : goal.invariant-loop-station
+invariant-loop-station l = (l.station-end ≡ length (network_in l.net).stations + 1) × (1 ≤ l.station) × (l.station ≤ l.station-end) × (length l.sums ≡ length l.initial.sums) × Filled (network_in l.net) (AtHV (network_in l.net) l.station) l.initial.sums l.sums
+
+abbrev pub decreases-loop-station : goal.decreases-loop-station
+decreases-loop-station l = l.station-end - l.station

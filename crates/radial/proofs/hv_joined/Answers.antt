@@ -1,0 +1,37 @@
+use Prim.Native.Nat.{◌+◌, ◌-◌, ◌≤◌}
+use mathlib.Core.Path.{◌≡◌, refl, sym, ◌∙◌}
+use mathlib.Core.Logic.{⊎_elim}
+use native.Mathlib.Omega.{arith}
+use lib.ListN.{length, replicate}
+use borrow.Author.Rules.{rules}
+use Rattle.buffer.specs.Buffer.{network_in}
+use Rattle.theory.specs.Gathering.{zeros}
+use Rattle.radial.specs.Stations.{Marked, Apart, label-there, marked_start, marked-skip, marked-set, apart-start, apart-skip, apart_next, marked-joined, apart-joined}
+use Rattle.radial.proofs.hv_joined.Goals as goal
+use Rattle.radial.proofs.hv_joined.Goals.{then-is_hv+else-marks-x-eq1, else-is_hv}
+
+pub loop-station-init : goal.loop-station-init
+loop-station-init c =
+    let d = c.requires.read in
+    (omega arith, omega arith, omega arith, marked_start d _ (replicate 513 0) refl (zeros 513), apart-start d _)
+
+pub label_of-x-requires : goal.label_of-x-requires
+label_of-x-requires c =
+    label-there c.requires.read c.requires.labelled _ (omega arith) (omega arith)
+
+pub returns-then-marks-x-eq1 : goal.returns-then-marks-x-eq1
+returns-then-marks-x-eq1 c =
+    marked-joined c.requires.read c.requires.labelled c.loop-station.invariant.3 c.label_of-x.ensures.0 (sym c.is_hv.ensures ∙ c.if-is_hv.true) c.if-marks-x-eq1.true
+
+pub loop-station-preserved : goal.loop-station-preserved
+loop-station-preserved c =
+    let i = c.loop-station.invariant in
+    let e = sym c.is_hv.ensures in
+    elim c.if-is_hv.branch [
+      | then-is_hv+else-marks-x-eq1 w ↦ rw w.marks-is (i.0, omega arith, omega arith, marked-set i.3 w.label_of-x.ensures.0 (e ∙ w.if-is_hv.true) w.label_of-x.ensures.1, apart_next i.3 w.label_of-x.ensures.0 i.4 w.if-marks-x-eq1.false)
+      | else-is_hv w ↦ rw w.marks-is (i.0, omega arith, omega arith, marked-skip i.3 (e ∙ w.if-is_hv.false), apart-skip i.4 (e ∙ w.if-is_hv.false))
+    ]
+
+pub returns : goal.returns
+returns c =
+    apart-joined c.requires.read c.requires.labelled (omega arith) c.loop-station.invariant.4

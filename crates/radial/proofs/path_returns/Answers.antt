@@ -1,0 +1,34 @@
+use Prim.Native.Nat.{◌+◌, ◌-◌}
+use mathlib.Core.Path.{◌≡◌, sym, ◌∙◌}
+use mathlib.Core.Bool.{true≢false}
+use mathlib.Core.Logic.{⊎_elim}
+use native.Mathlib.Omega.{arith}
+use lib.ListN.{length}
+use borrow.Author.Rules.{rules}
+use Rattle.buffer.specs.Buffer.{network_in}
+use Rattle.radial.specs.Run.{Running, running-start, running-skip, running-return, running-join, running-end}
+use Rattle.radial.proofs.path_returns.Goals as goal
+use Rattle.radial.proofs.path_returns.Goals.{then-both_closed+else-x-y, else-both_closed}
+
+pub loop-line-init : goal.loop-line-init
+loop-line-init c =
+    (omega arith, running-start c.requires.read c.number.new.labels c.number.ensures.labels_len c.number.ensures.by_index)
+
+pub returns-then-x-y : goal.returns-then-x-y
+returns-then-x-y c =
+    let h = c.loop-line in
+    let q = sym c.both_closed.ensures ∙ c.if-both_closed.true in
+    record { value = running-return c.requires.read c.requires.net_value h.invariant.1 (omega arith) q c.station_of.ensures.value c.station_of-then-both_closed.ensures.value c.if-x-y.true; labelled = λ e. absurd (true≢false e) }
+
+pub loop-line-preserved : goal.loop-line-preserved
+loop-line-preserved c =
+    let h = c.loop-line in
+    elim c.if-both_closed.branch [
+      | then-both_closed+else-x-y w ↦ rw w.labels-is (h.invariant.0, running-join c.requires.read c.requires.net_value h.invariant.1 (omega arith) (sym c.both_closed.ensures ∙ w.if-both_closed.true) w.station_of.ensures.value w.station_of-then-both_closed.ensures.value w.if-x-y.false w.rename.ensures.labels_len w.rename.ensures.by_index)
+      | else-both_closed w ↦ rw w.labels-is (h.invariant.0, running-skip c.requires.read c.requires.net_value h.invariant.1 (omega arith) (sym c.both_closed.ensures ∙ w.if-both_closed.false))
+    ]
+
+pub returns : goal.returns
+returns c =
+    let r = running-end c.requires.read (omega arith) c.loop-line.invariant.1 in
+    record { value = r.0; labelled = λ e. r.1 }

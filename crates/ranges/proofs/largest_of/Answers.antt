@@ -1,0 +1,24 @@
+use borrow.Author.Tests.{eq-eqb, ne_eqb}
+use Rattle.model.specs.Ranges.{largest_of}
+use mathlib.Core.Path.{refl}
+use Rattle.ranges.proofs.largest_of.Goals as goal
+
+pub returns-in-Number : goal.returns-in-Number
+unfolding largest_of
+returns-in-Number c = rw c.in-Number.is
+
+pub returns-in-Stations : goal.returns-in-Stations
+unfolding largest_of
+returns-in-Stations c = rw c.in-Stations.is
+
+pub returns-in-Lines : goal.returns-in-Lines
+unfolding largest_of
+returns-in-Lines c = rw c.in-Lines.is
+
+pub returns-then-first-eq1 : goal.returns-then-first-eq1
+unfolding largest_of
+returns-then-first-eq1 c = rw c.in-NoneAtHv.is (rw (eq-eqb c.args.first 1 c.if-first-eq1.true, largest_of) refl)
+
+pub returns-else-first-eq1 : goal.returns-else-first-eq1
+unfolding largest_of
+returns-else-first-eq1 c = rw c.in-NoneAtHv.is (rw (ne_eqb c.args.first 1 c.if-first-eq1.false, largest_of) refl)

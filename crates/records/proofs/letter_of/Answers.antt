@@ -1,0 +1,8 @@
+use mathlib.Core.Path.{refl}
+use Rattle.records.specs.Kinds.{letters}
+use borrow.Author.Rules.{rules}
+use Rattle.records.proofs.letter_of.Goals as goal
+
+pub returns : goal.returns
+unfolding letters
+returns c = refl

@@ -1,0 +1,18 @@
+use borrow.Author.Rules.{rules}
+use Prim.Native.Nat.{ℕ, ◌+◌, ◌-◌, ◌≤◌}
+use mathlib.Core.Path.{◌≡◌, ◌∙◌}
+use native.Mathlib.Omega.{arith}
+use lib.ListN.{length, get_or}
+use Rattle.savings.specs.Breakers.{end_at}
+use Rattle.buffer.specs.Buffer.{network_in}
+use Rattle.sets.specs.Onward.{onward}
+use Rattle.relations.specs.Climb.{is_above, place_above}
+use Rattle.relations.proofs.Climbing.{Related, related-start, related-next, related-all}
+use Rattle.relations.proofs.Above.{climb-places, relations-all}
+use Rattle.relations.proofs.fill_relations.Given as goal
+
+abbrev pub invariant-loop-place : goal.invariant-loop-place
+invariant-loop-place l = (l.place-end ≡ length (network_in l.net).places + 1) × (1 ≤ l.place) × (l.place ≤ l.place-end) × (length l.relations ≡ 4225) × ((k : ℕ) → k ≤ 64 → get_or l.relations k 0 ≡ 0) × Related (length (network_in l.net).places) (is_above (network_in l.net)) l.place l.relations
+
+abbrev pub decreases-loop-place : goal.decreases-loop-place
+decreases-loop-place l = l.place-end - l.place

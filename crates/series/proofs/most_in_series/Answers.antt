@@ -1,0 +1,37 @@
+use Prim.Native.Nat.{ℕ, ◌+◌, ◌-◌, ◌≤◌, ◌<◌}
+use mathlib.Core.Path.{◌≡◌}
+use native.Mathlib.Omega.{arith}
+use lib.ListN.{length}
+use Rattle.model.specs.Rules.{breakers_on}
+use Rattle.buffer.specs.Buffer.{network_in}
+use Rattle.tree.proofs.Fitting.{read_fits}
+use Rattle.paths.specs.Meets.{far_route}
+use Rattle.series.specs.Series.{most_in_series}
+use Rattle.series.proofs.InSeries.{far_within, none_above, upto-more}
+use borrow.Author.Rules.{rules}
+use Rattle.series.proofs.most_in_series.Goals as goal
+
+pub loop-line-init : goal.loop-line-init
+loop-line-init c = (omega arith, omega arith, omega arith, omega arith, λ l i h. absurd (omega arith))
+
+pub count_beyond-requires : goal.count_beyond-requires
+count_beyond-requires c =
+    let h = c.loop-line in
+    (c.requires.0, c.requires.1, c.requires.2, c.requires.3, record { fits = read_fits (network_in c.args.net.now) c.requires.0; low = h.invariant.1; high = omega arith })
+
+pub loop-line-preserved : goal.loop-line-preserved
+loop-line-preserved c =
+    let h = c.loop-line in
+    let N = network_in c.args.net.now in
+    let n = c.count_beyond.ensures in (
+      omega arith,
+      omega arith,
+      omega arith,
+      omega (arith, c.larger-most.ensures, n, h.invariant.3, far_within N c.requires.0 c.requires.1 h.line h.invariant.1 (omega arith)),
+      upto-more (λ l. breakers_on N (far_route N l)) h.line h.most c.larger-most.result h.invariant.4 (omega (arith, c.larger-most.ensures)) (omega (arith, c.larger-most.ensures, n)),
+    )
+
+pub returns : goal.returns
+returns c =
+    let h = c.loop-line in
+    omega (arith, h.invariant.3, none_above (network_in c.args.net.now) c.requires.0 c.requires.1 h.most (λ l i j. h.invariant.4 l i (omega arith)))

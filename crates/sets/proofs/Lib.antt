@@ -1,0 +1,4 @@
+pub mod Stops
+pub mod Sets
+pub mod ByPlaces
+pub mod Start

@@ -1,0 +1,16 @@
+use Prim.Native.Nat.{◌*◌, ◌≤◌}
+use mathlib.Core.Path.{◌≡◌, ◌∙◌, sym, subst}
+use mathlib.Core.Logic.{⊎_elim}
+use native.Mathlib.Omega.{arith}
+use lib.ListN.{length-set, length}
+use borrow.Author.Tests.{not-true, not-false}
+use borrow.Author.Rules.{rules}
+use Rattle.buffer.specs.Buffer.{network_in}
+use Rattle.tree.proofs.Linking.{LinkedAbove, linked-start, linked-end, linked-open, linked-closed}
+use Rattle.tree.proofs.link_ends.Given as goal
+
+abbrev pub invariant-loop-code : goal.invariant-loop-code
+invariant-loop-code l = (l.code ≤ 2 * length (network_in l.net).lines) × LinkedAbove (network_in l.net) l.code l.chains l.nexts × (length l.chains ≡ 512) × (length l.nexts ≡ 1536)
+
+abbrev pub decreases-loop-code : goal.decreases-loop-code
+decreases-loop-code l = l.code

@@ -1,0 +1,14 @@
+use Prim.Native.Nat.{◌≤◌, ◌-◌}
+use native.Mathlib.Omega.{arith}
+use lib.ListN.{take}
+use borrow.Author.Rules.{rules}
+use Rattle.buffer.specs.Buffer.{network_in}
+use Rattle.tree.specs.Queue.{Queue, Reached}
+use Rattle.tree.proofs.Queueing.{queue-end}
+use Rattle.tree.proofs.outwards.Given as goal
+
+abbrev pub invariant-loop-i : goal.invariant-loop-i
+invariant-loop-i l = (l.i ≤ l.n) × Queue (network_in l.net) (Reached (network_in l.net) (take l.i l.order)) l.sides l.feeders l.order l.n
+
+abbrev pub decreases-loop-i : goal.decreases-loop-i
+decreases-loop-i l = 768 - l.i
