@@ -4,6 +4,7 @@
 ghost use Rattle.std.specs.Prelude.{◌≡◌, ◌+◌, ◌*◌, ◌^◌, ◌<◌};
 
 use amounts::{Customers, Total, Weight};
+use std::io;
 
 // The total with the outage amount of one more line.
 fn with_line(total: Total, weight: u64, customers: u64) -> Total
@@ -14,42 +15,33 @@ fn with_line(total: Total, weight: u64, customers: u64) -> Total
     total.plus(amount)
 }
 
-fn show(total: Total) {
-    io::print_decimal(1, total.number());
-    io::write_all(1, b"\n");
+fn show(rt: &impl Print, total: Total) -> io::Result<()> {
+    println!(rt; "{}", total.number())
 }
 
-fn show_below(a: Total, b: Total) {
-    if a.below(b) {
-        io::write_all(1, b"1\n");
-    } else {
-        io::write_all(1, b"0\n");
-    }
+fn show_below(rt: &impl Print, a: Total, b: Total) -> io::Result<()> {
+    println!(rt; "{}", u8::from(a.below(b)))
 }
 
-fn show_can_pass(a: Total, more: u64, b: Total)
+fn show_can_pass(rt: &impl Print, a: Total, more: u64, b: Total) -> io::Result<()>
     requires { a.0 + more < 2 ^ 64 }
 {
-    if a.can_pass(more, b) {
-        io::write_all(1, b"1\n");
-    } else {
-        io::write_all(1, b"0\n");
-    }
+    println!(rt; "{}", u8::from(a.can_pass(more, b)))
 }
 
-fn main() {
+fn main(rt: HostRuntime) -> io::Result<()> {
     let first = with_line(Total::ZERO, 2, 60);
     let second = with_line(first, 3, 60);
     let third = with_line(second, 5, 60);
-    show(Total::ZERO);
-    show(first);
-    show(second);
-    show(third);
-    show_below(first, second);
-    show_below(second, first);
-    show_below(third, third);
-    show_below(Total::ZERO, first);
-    show_can_pass(first, 179, second);
-    show_can_pass(first, 180, second);
-    show_can_pass(first, 181, second);
+    show(&rt, Total::ZERO)?;
+    show(&rt, first)?;
+    show(&rt, second)?;
+    show(&rt, third)?;
+    show_below(&rt, first, second)?;
+    show_below(&rt, second, first)?;
+    show_below(&rt, third, third)?;
+    show_below(&rt, Total::ZERO, first)?;
+    show_can_pass(&rt, first, 179, second)?;
+    show_can_pass(&rt, first, 180, second)?;
+    show_can_pass(&rt, first, 181, second)
 }

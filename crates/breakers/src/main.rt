@@ -2,165 +2,224 @@
 // number or a word is refused, or what failed.
 #![tactic(auto)]
 
-ghost use Rattle.std.specs.Prelude.{◌≤◌, length};
-ghost use Rattle.io.specs.Counts.{IsPrefixLen};
+ghost use Rattle.std.specs.Prelude.{◌≡◌, ◌≤◌, length, take};
 
 use input::Input;
-use libc::{STDERR_FILENO, STDIN_FILENO, STDOUT_FILENO};
 use model::{Command, Request};
+use std::env::{Env, FillError};
+use std::fs::File;
+use std::io::{ErrorKind, IsTerminal, Read};
+use std::{io, str};
 
-// Writes the text that ends before `at` to a descriptor; whether it could.
-fn write_text(fd: i32, text: &[u8], at: usize) -> bool {
+// Writes the text that ends before `at`.
+fn write_text(to: &impl Print, text: &[u8], at: usize) -> io::Result<()> {
     let n = words::used(text, at);
-    io::write_all(fd, &text[..n])
+    to.write_all(&text[..n])
+}
+
+// Why something failed, without the system's number for it, and the end of the line.
+fn write_reason(rt: &HostRuntime, error: io::Error) -> io::Result<()> {
+    let Ok(text) = format!(in rt.alloc(); "{error}") else {
+        return rt.eprintln(error);
+    };
+    match text.as_str().split_once(" (os error ") {
+        Some((reason, _)) => rt.eprintln(reason),
+        None => rt.eprintln(text.as_str()),
+    }
+}
+
+// The line that says what failed, and why, behind `start`.
+fn write_failure(rt: &HostRuntime, start: &[u8], what: &[u8], error: io::Error) -> io::Result<()> {
+    rt.stderr().write_all(start)?;
+    rt.stderr().write_all(what)?;
+    rt.stderr().write_all(b": ")?;
+    write_reason(rt, error)
 }
 
 // Says on standard error what failed, and why.
-fn fail(what: &[u8]) {
-    io::write_all(STDERR_FILENO, b"breakers: ");
-    os::fail(what);
+fn fail(rt: &HostRuntime, what: &[u8], error: io::Error) {
+    let _ = write_failure(rt, b"breakers: ", what, error);
 }
 
 // Says on standard error why a command was refused on a file.
-fn explain(command: Command, file: &[u8], number: u64, record: u64) {
+fn explain(rt: &HostRuntime, command: Command, file: &[u8], number: u64, record: u64) {
     let mut text = [0u8; 2000];
     let end = explanations::explain(command, file, number, record, &mut text);
-    write_text(STDERR_FILENO, &text, end);
+    let _ = write_text(&rt.stderr(), &text, end);
 }
 
 // Prints what a command answers for the first `bytes` bytes of a file's buffer, and says why if it is a refusal.
-fn print_answer(command: Command, file: &[u8], bytes: usize)
+fn print_answer(rt: &HostRuntime, command: Command, file: &[u8], bytes: usize)
     requires { bytes ≤ length file.now }
 {
     let mut out = commands::space();
     let said = commands::answer(command, file, bytes, &mut out);
     let n = said.bytes;
-    if !io::write_all(STDOUT_FILENO, &out[..n]) {
-        fail(b"standard output");
+    if let Err(e) = rt.write_all(&out[..n]) {
+        fail(rt, b"standard output", e);
         return;
     }
     if said.number != 0 {
-        explain(command, &file[..bytes], said.number, said.record);
+        explain(rt, command, &file[..bytes], said.number, said.record);
     }
 }
 
 // Reads a file to its end and prints what a command answers for it, or says that it cannot be read.
-fn run(command: Command, fd: i32, name: &[u8]) {
+fn run<F: Read>(rt: &HostRuntime, command: Command, from: &mut F, name: &[u8]) {
     let mut file = input::space();
-    match input::read(fd, &mut file) {
-        Input::Failed => fail(name),
-        Input::Bytes(n) => print_answer(command, &file, n),
+    match input::read(from, &mut file) {
+        Input::Failed(e) => fail(rt, name, e),
+        Input::Bytes(n) => print_answer(rt, command, &file, n),
     }
 }
 
 // Prints what a command answers for the file of standard input.
-fn run_input(command: Command) {
-    if libc::isatty(STDIN_FILENO) == 1 {
-        io::write_all(
-            STDERR_FILENO,
-            b"breakers: reading a network file from standard input (Ctrl-D ends it; breakers help says more)\n",
+fn run_input(rt: &HostRuntime, command: Command) {
+    if rt.stdin().is_terminal() {
+        let _ = rt.eprintln(
+            "breakers: reading a network file from standard input (Ctrl-D ends it; breakers help says more)",
         );
     }
-    run(command, STDIN_FILENO, b"standard input");
+    run(rt, command, &mut rt.stdin(), b"standard input");
+}
+
+// The system's number for a name that is too long.
+const ENAMETOOLONG: i32 = 36;
+
+// The file at a path, which std takes as UTF-8. One that fills its buffer may have been cut short.
+fn open(rt: &HostRuntime, path: &[u8]) -> io::Result<File> {
+    if path.len() >= 4096 {
+        return Err(io::Error::from_raw_os_error(ENAMETOOLONG));
+    }
+    match str::from_utf8(path) {
+        Ok(text) => File::open(rt, text),
+        Err(_) => Err(io::Error::new(
+            ErrorKind::InvalidInput,
+            "the name is not UTF-8; rename the file, or give it on standard input",
+        )),
+    }
 }
 
 // Prints what a command answers for the file at a path, which is called `name` if it cannot be read. The first word may have been
 // meant as a command.
-fn run_path(command: Command, path: &[u8], name: &[u8], word: usize) {
-    let fd = os::open_read(path);
-    if fd < 0 {
-        if word == 1 {
-            io::write_all(
-                STDERR_FILENO,
-                b"breakers: no command (breakers help lists them), and no file that can be read: ",
-            );
-            os::fail(name);
-            return;
+fn run_path(rt: &HostRuntime, command: Command, path: &[u8], name: &[u8], word: usize) {
+    match open(rt, path) {
+        Ok(mut file) => run(rt, command, &mut file, name),
+        Err(e) if word == 1 => {
+            let start =
+                b"breakers: no command (breakers help lists them), and no file that can be read: ";
+            let _ = write_failure(rt, start, name, e);
         }
-        fail(name);
-        return;
+        Err(e) => fail(rt, name, e),
     }
-    run(command, fd, name);
-    libc::close(fd);
 }
 
 // Prints what a command answers for the file that a word names, by the word's number.
-fn run_file(command: Command, path: &[u8], word: usize) {
+fn run_file(rt: &HostRuntime, command: Command, path: &[u8], word: usize) {
     let mut name = [0u8; 16400];
     let end = words::put_name(&mut name, 0, path);
     let n = words::used(&name, end);
-    run_path(command, path, &name[..n], word);
+    run_path(rt, command, path, &name[..n], word);
 }
 
 // Carries out a command on the file that a word names, or on standard input.
-fn carry_out(command: Command, file: usize, first: &[u8], second: &[u8], third: &[u8]) {
+fn carry_out(
+    rt: &HostRuntime,
+    command: Command,
+    file: usize,
+    first: &[u8],
+    second: &[u8],
+    third: &[u8],
+) {
     match command {
         Command::Ceiling { .. } => {
             let none = input::space();
-            print_answer(command, &none, 0);
+            print_answer(rt, command, &none, 0);
         }
         _ => {
             if file == 0 {
-                run_input(command);
+                run_input(rt, command);
             } else if file == 1 {
-                run_file(command, first, 1);
+                run_file(rt, command, first, 1);
             } else if file == 2 {
-                run_file(command, second, 2);
+                run_file(rt, command, second, 2);
             } else {
-                run_file(command, third, 3);
+                run_file(rt, command, third, 3);
             }
         }
+    }
+}
+
+// Prints a text that ends before `at`, or says that it cannot be printed.
+fn print_text(rt: &HostRuntime, text: &[u8], at: usize) {
+    if let Err(e) = write_text(rt, text, at) {
+        fail(rt, b"standard output", e);
     }
 }
 
 // Prints the help or the version, or says how the words are wrong.
-fn tell(request: Request, first: &[u8], second: &[u8], third: &[u8]) {
+fn tell(rt: &HostRuntime, request: Request, first: &[u8], second: &[u8], third: &[u8]) {
     let mut text = [0u8; 2000];
     match request {
         Request::Help => {
             let end = usage::put_help(&mut text, 0);
-            if !write_text(STDOUT_FILENO, &text, end) {
-                fail(b"standard output");
-            }
+            print_text(rt, &text, end);
         }
         Request::Version => {
             let end = usage::put_version(&mut text, 0);
-            if !write_text(STDOUT_FILENO, &text, end) {
-                fail(b"standard output");
-            }
+            print_text(rt, &text, end);
         }
         _ => {
             let end = usage::put_misuse(request, first, second, third, &mut text, 0);
-            write_text(STDERR_FILENO, &text, end);
+            let _ = write_text(&rt.stderr(), &text, end);
         }
     }
+}
+
+// Room for a word, as long as a path may be.
+fn word_space() -> [u8; 4096]
+    ensures { 4096 ≡ length result }
+{
+    [0; 4096]
 }
 
 // A word behind the program's name at the start of a buffer; answers its length. One that does not fit fills the buffer.
-fn fetch(i: usize, buf: &mut [u8]) -> usize
-    ensures { IsPrefixLen result buf.new }
+fn fetch(env: &impl Env, i: usize, buf: &mut [u8]) -> usize
+    ensures { (result ≤ length buf.new) × (result ≡ length (take result buf.new)) }
 {
-    let n = os::arg(i, buf);
-    if os::errno() == libc::ENAMETOOLONG {
-        return io::count(32768, buf);
+    match env.arg(i, buf) {
+        Ok(n) => n,
+        Err(FillError::TooLong) => buf.len(),
+        Err(FillError::NotPresent) => 0,
     }
-    n
 }
 
-fn main() {
-    let mut first = io::buffer();
-    let a = fetch(1, &mut first);
-    let mut second = io::buffer();
-    let b = fetch(2, &mut second);
-    let mut third = io::buffer();
-    let c = fetch(3, &mut third);
-    let count = os::arg_count();
-    let words = if count == 0 { 0 } else { count - 1 };
+// How many words there are behind the program's name, up to `most`.
+fn word_count(env: &impl Env, most: usize) -> usize
+    ensures { result ≤ most }
+{
+    for i in 0..most {
+        if let Err(FillError::NotPresent) = env.arg(i + 1, &mut []) {
+            return i;
+        }
+    }
+    most
+}
+
+fn main(rt: HostRuntime) {
+    let mut first = word_space();
+    let a = fetch(&rt, 1, &mut first);
+    let mut second = word_space();
+    let b = fetch(&rt, 2, &mut second);
+    let mut third = word_space();
+    let c = fetch(&rt, 3, &mut third);
+    // Four words are too many, whatever follows.
+    let words = word_count(&rt, 4);
     let request = arguments::request(words, &first[..a], &second[..b], &third[..c]);
     match request {
         Request::Ask { command, file } => {
-            carry_out(command, file, &first[..a], &second[..b], &third[..c]);
+            carry_out(&rt, command, file, &first[..a], &second[..b], &third[..c]);
         }
-        _ => tell(request, &first[..a], &second[..b], &third[..c]),
+        _ => tell(&rt, request, &first[..a], &second[..b], &third[..c]),
     }
 }

@@ -2,35 +2,29 @@
 #![tactic(auto)]
 
 use model::CeilingAnswer;
+use std::io;
 
-fn show(places: u64, additions: u64) {
+fn show(rt: &impl Print, places: u64, additions: u64) -> io::Result<()> {
     match binomials::ceiling(places, additions) {
-        CeilingAnswer::Sets(n) => {
-            io::print_decimal(1, n);
-        }
-        CeilingAnswer::Refused { number, record } => {
-            io::write_all(1, b"X,");
-            io::print_decimal(1, number);
-            io::write_all(1, b",");
-            io::print_decimal(1, record);
-        }
+        CeilingAnswer::Sets(n) => println!(rt; "{n}"),
+        CeilingAnswer::Refused { number, record } => println!(rt; "X,{number},{record}"),
     }
-    io::write_all(1, b"\n");
 }
 
-fn show_row(places: u64) {
+fn show_row(rt: &impl Print, places: u64) -> io::Result<()> {
     for additions in 0..18 {
-        show(places, additions);
+        show(rt, places, additions)?;
     }
+    Ok(())
 }
 
-fn main() {
+fn main(rt: HostRuntime) -> io::Result<()> {
     for places in 0..66 {
-        show_row(places);
+        show_row(&rt, places)?;
     }
-    show(18446744073709551615, 0);
-    show(0, 18446744073709551615);
-    show(4294967296, 4294967296);
-    show(64, 256);
-    show(256, 16);
+    show(&rt, 18446744073709551615, 0)?;
+    show(&rt, 0, 18446744073709551615)?;
+    show(&rt, 4294967296, 4294967296)?;
+    show(&rt, 64, 256)?;
+    show(&rt, 256, 16)
 }

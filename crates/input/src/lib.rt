@@ -4,11 +4,14 @@
 ghost use Rattle.std.specs.Prelude.{◌≡◌, length};
 ghost use Rattle.input.specs.Reading.{Within, input_of};
 
-// What was read: so many bytes, or a read that failed.
+use std::io;
+use std::io::Read;
+
+// What was read: so many bytes, or a read that failed, and why.
 #[derive(Clone, Copy)]
 pub enum Input {
     Bytes(usize),
-    Failed,
+    Failed(io::Error),
 }
 
 // Room for a file and one byte more, so that a file that is too long is seen to be.
@@ -18,32 +21,32 @@ pub fn space() -> [u8; 32769]
     [0; 32769]
 }
 
-// What one read into a buffer says: a negative number, that it failed, else how many bytes came.
-fn input_of(got: isize, buf: &[u8]) -> Input
+// What one read into a buffer says: that it failed, else how many bytes came.
+fn input_of(got: io::Result<usize>, buf: &[u8]) -> Input
     ensures { result ≡ input_of got (length buf.now) }
 {
-    if got < 0 {
-        return Input::Failed;
+    match got {
+        Err(e) => Input::Failed(e),
+        Ok(n) => Input::Bytes(n.min(buf.len())),
     }
-    Input::Bytes(io::count(got, buf))
 }
 
 // One read into a buffer: no bytes where the input ends.
-fn read_some(fd: i32, buf: &mut [u8]) -> Input
+fn read_some<R: Read>(from: &mut R, buf: &mut [u8]) -> Input
     ensures { Within (length buf.old) result }
 {
-    let got = libc::read(fd, buf);
+    let got = from.read(buf);
     input_of(got, buf)
 }
 
 // Reads to the end of the input, or until the buffer is full. The bytes stand at the start of the buffer.
-pub fn read(fd: i32, buf: &mut [u8]) -> Input
+pub fn read<R: Read>(from: &mut R, buf: &mut [u8]) -> Input
     ensures { Within (length buf.old) result }
 {
     let mut at: usize = 0;
     while at < buf.len() {
-        match read_some(fd, &mut buf[at..]) {
-            Input::Failed => return Input::Failed,
+        match read_some(from, &mut buf[at..]) {
+            Input::Failed(e) => return Input::Failed(e),
             Input::Bytes(n) => {
                 if n == 0 {
                     return Input::Bytes(at);

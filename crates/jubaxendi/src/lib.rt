@@ -1,5 +1,6 @@
-// The calls for programs in other languages. Each returns 0 if it answered, else the refusal as one number, and writes what it
-// answers at the start of a lent list of eight numbers, `answer`, whose rest stays. A refused call writes nothing.
+// The calls for programs in other languages, which crate `jubaxendi_c` exports. Each returns 0 if it answered, else the refusal as
+// one number, and writes what it answers at the start of a lent list of eight numbers, `answer`, whose rest stays. A refused call
+// writes nothing.
 #![tactic(auto)]
 
 ghost use Rattle.std.specs.Prelude.{◌≡◌};
@@ -12,8 +13,7 @@ use model::{
 };
 
 // Check: no values.
-#[unsafe(no_mangle)]
-pub extern "C" fn jubaxendi_check(file: &[u8], answer: &mut [u64; 8]) -> u64
+pub fn jubaxendi_check(file: &[u8], answer: &mut [u64; 8]) -> u64
     ensures value { result ≡ returned (checked file.now) }
     ensures answer_after { answer.new ≡ answer_leaves no_values (checked file.now) answer.old }
 {
@@ -24,8 +24,7 @@ pub extern "C" fn jubaxendi_check(file: &[u8], answer: &mut [u64; 8]) -> u64
 }
 
 // Impact: the customers that a fault on the line cuts off.
-#[unsafe(no_mangle)]
-pub extern "C" fn jubaxendi_impact(file: &[u8], line: u64, answer: &mut [u64; 8]) -> u64
+pub fn jubaxendi_impact(file: &[u8], line: u64, answer: &mut [u64; 8]) -> u64
     ensures value { result ≡ returned (impact_answered file.now line) }
     ensures answer_after { answer.new ≡ answer_leaves impact_values (impact_answered file.now line)
         answer.old }
@@ -40,8 +39,7 @@ pub extern "C" fn jubaxendi_impact(file: &[u8], line: u64, answer: &mut [u64; 8]
 }
 
 // Total: the total and the figure.
-#[unsafe(no_mangle)]
-pub extern "C" fn jubaxendi_total(file: &[u8], answer: &mut [u64; 8]) -> u64
+pub fn jubaxendi_total(file: &[u8], answer: &mut [u64; 8]) -> u64
     ensures value { result ≡ returned (totalled file.now) }
     ensures answer_after { answer.new ≡ answer_leaves total_values (totalled file.now) answer.old }
 {
@@ -56,8 +54,7 @@ pub extern "C" fn jubaxendi_total(file: &[u8], answer: &mut [u64; 8]) -> u64
 
 // Search: 1 finished or 0 spent, the number of members, their total and the visits. The members' place numbers are written at
 // the start of `members`.
-#[unsafe(no_mangle)]
-pub extern "C" fn jubaxendi_search(file: &[u8], members: &mut [u64], answer: &mut [u64; 8]) -> u64
+pub fn jubaxendi_search(file: &[u8], members: &mut [u64], answer: &mut [u64; 8]) -> u64
     ensures value { result ≡ returned (search_answered file.now members.old) }
     ensures members_after { members.new ≡ search_leaves file.now members.old }
     ensures answer_after { answer.new ≡ answer_leaves search_values (search_answered file.now members.old)
@@ -85,8 +82,7 @@ pub extern "C" fn jubaxendi_search(file: &[u8], members: &mut [u64], answer: &mu
 }
 
 // Report: the length of the text in bytes. The text is written at the start of `text`.
-#[unsafe(no_mangle)]
-pub extern "C" fn jubaxendi_report(file: &[u8], text: &mut [u8], answer: &mut [u64; 8]) -> u64
+pub fn jubaxendi_report(file: &[u8], text: &mut [u8], answer: &mut [u64; 8]) -> u64
     ensures value { result ≡ returned (report_answered file.now text.old) }
     ensures text_after { text.new ≡ report_leaves file.now text.old }
     ensures answer_after { answer.new ≡ answer_leaves report_values (report_answered file.now text.old)
@@ -102,8 +98,7 @@ pub extern "C" fn jubaxendi_report(file: &[u8], text: &mut [u8], answer: &mut [u
 }
 
 // Segments: how many entries the segment table has. The table, five numbers an entry, is written at the start of `table`.
-#[unsafe(no_mangle)]
-pub extern "C" fn jubaxendi_segments(file: &[u8], table: &mut [u64], answer: &mut [u64; 8]) -> u64
+pub fn jubaxendi_segments(file: &[u8], table: &mut [u64], answer: &mut [u64; 8]) -> u64
     ensures value { result ≡ returned (segments_answered file.now table.old) }
     ensures table_after { table.new ≡ segments_leaves file.now table.old }
     ensures answer_after { answer.new ≡ answer_leaves segments_values
@@ -119,8 +114,7 @@ pub extern "C" fn jubaxendi_segments(file: &[u8], table: &mut [u64], answer: &mu
 }
 
 // Ceiling: how many sets of at most `additions` of `places` places there are.
-#[unsafe(no_mangle)]
-pub extern "C" fn jubaxendi_ceiling(places: u64, additions: u64, answer: &mut [u64; 8]) -> u64
+pub fn jubaxendi_ceiling(places: u64, additions: u64, answer: &mut [u64; 8]) -> u64
     ensures value { result ≡ returned (ceiling_answered places additions) }
     ensures answer_after { answer.new ≡ answer_leaves ceiling_values (ceiling_answered places additions) answer.old }
 {

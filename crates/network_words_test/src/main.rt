@@ -4,7 +4,9 @@
 
 ghost use Rattle.std.specs.Prelude.{◌≤◌, length};
 
+use input::Input;
 use model::CheckAnswer;
+use std::io;
 
 // Where the file that starts at `from` ends.
 fn file_end(input: &[u8], from: usize) -> usize
@@ -22,11 +24,18 @@ fn file_end(input: &[u8], from: usize) -> usize
 }
 
 // The words for a number and a record, in a buffer from a position on.
-fn show_words(file: &[u8], number: u64, record: u64, out: &mut [u8], at: usize) {
+fn show_words(
+    rt: &impl Print,
+    file: &[u8],
+    number: u64,
+    record: u64,
+    out: &mut [u8],
+    at: usize,
+) -> io::Result<()> {
     let end = network_words::explain_network(file, number, record, out, at);
     let n = words::used(out, end);
-    io::write_all(1, &out[..n]);
-    io::write_all(1, b"\n");
+    rt.write_all(&out[..n])?;
+    println!(rt)
 }
 
 // Room for the words.
@@ -35,46 +44,46 @@ fn words_space() -> [u8; 1000] {
 }
 
 // A number, a record and the words for them.
-fn show_refusal(file: &[u8], number: u64, record: u64) {
-    io::print_decimal(1, number);
-    io::write_all(1, b",");
-    io::print_decimal(1, record);
-    io::write_all(1, b": ");
+fn show_refusal(rt: &impl Print, file: &[u8], number: u64, record: u64) -> io::Result<()> {
+    print!(rt; "{number},{record}: ")?;
     let mut out = words_space();
-    show_words(file, number, record, &mut out, 0);
+    show_words(rt, file, number, record, &mut out, 0)
 }
 
 // What is said of a file.
-fn show(file: &[u8]) {
+fn show(rt: &impl Print, file: &[u8]) -> io::Result<()> {
     match engine::check(file) {
         CheckAnswer::Accepted => {
-            io::write_all(1, b"accepted, ");
-            show_refusal(file, 6, 0);
+            print!(rt; "accepted, ")?;
+            show_refusal(rt, file, 6, 0)
         }
-        CheckAnswer::Refused { number, record } => show_refusal(file, number, record),
+        CheckAnswer::Refused { number, record } => show_refusal(rt, file, number, record),
     }
 }
 
 // Numbers and records that do not belong to a file, and buffers that are too short.
-fn show_others(file: &[u8]) {
-    show_refusal(file, 0, 0);
-    show_refusal(file, 4, 0);
-    show_refusal(file, 4, 18446744073709551615);
-    show_refusal(file, 5, 2);
-    show_refusal(file, 7, 0);
-    show_refusal(file, 8, 2);
-    show_refusal(file, 8, 0);
-    show_refusal(file, 9, 0);
-    show_refusal(file, 10, 0);
+fn show_others(rt: &impl Print, file: &[u8]) -> io::Result<()> {
+    show_refusal(rt, file, 0, 0)?;
+    show_refusal(rt, file, 4, 0)?;
+    show_refusal(rt, file, 4, 18446744073709551615)?;
+    show_refusal(rt, file, 5, 2)?;
+    show_refusal(rt, file, 7, 0)?;
+    show_refusal(rt, file, 8, 2)?;
+    show_refusal(rt, file, 8, 0)?;
+    show_refusal(rt, file, 9, 0)?;
+    show_refusal(rt, file, 10, 0)?;
     let mut short = [b'#'; 24];
-    show_words(file, 6, 0, &mut short, 0);
-    show_words(file, 6, 0, &mut short, 12);
-    show_words(file, 6, 0, &mut short, 25);
+    show_words(rt, file, 6, 0, &mut short, 0)?;
+    show_words(rt, file, 6, 0, &mut short, 12)?;
+    show_words(rt, file, 6, 0, &mut short, 25)
 }
 
 // Others of a file with two parallel lines.
-fn show_others_of_two() {
-    show_others(b"N,2,2,90,3,0,0,0,1\nS,1,0\nS,0,5\nL,1,1,2,1,0\nL,1,1,2,1,0\n");
+fn show_others_of_two(rt: &impl Print) -> io::Result<()> {
+    show_others(
+        rt,
+        b"N,2,2,90,3,0,0,0,1\nS,1,0\nS,0,5\nL,1,1,2,1,0\nL,1,1,2,1,0\n",
+    )
 }
 
 // Room for the input.
@@ -82,14 +91,24 @@ fn input_space() -> [u8; 200000] {
     [0; 200000]
 }
 
-fn main() {
-    let mut input = input_space();
-    let n = io::read_full(0, &mut input);
+// What is said of each file of the input.
+fn show_files(rt: &impl Print, input: &[u8]) -> io::Result<()>
+    requires { length input.now ≤ 200000 }
+{
     let mut at: usize = 0;
-    while at < n {
-        let end = file_end(&input[..n], at);
-        show(&input[at..end]);
+    while at < input.len() {
+        let end = file_end(input, at);
+        show(rt, &input[at..end])?;
         at = end + 2;
     }
-    show_others_of_two();
+    Ok(())
+}
+
+fn main(rt: HostRuntime) -> io::Result<()> {
+    let mut input = input_space();
+    match input::read(&mut rt.stdin(), &mut input) {
+        Input::Failed(e) => return Err(e),
+        Input::Bytes(n) => show_files(&rt, &input[..n])?,
+    }
+    show_others_of_two(&rt)
 }

@@ -4,6 +4,8 @@
 
 ghost use Rattle.std.specs.Prelude.{◌<◌};
 
+use std::io;
+
 const VALUES: [u64; 32] = [
     0,
     1,
@@ -39,36 +41,35 @@ const VALUES: [u64; 32] = [
     18446744073709551615,
 ];
 
-fn show(kind: usize, field: usize, first: u64)
+fn show(rt: &impl Print, kind: usize, field: usize, first: u64) -> io::Result<()>
     requires { (kind < 4) × (field < 8) }
 {
     let values = VALUES;
     for i in 0..32 {
-        if ranges::in_range(kind, field, values[i], 7, 5, first) {
-            io::write_all(1, b"1");
-        } else {
-            io::write_all(1, b"0");
-        }
+        let held = ranges::in_range(kind, field, values[i], 7, 5, first);
+        print!(rt; "{}", u8::from(held))?;
     }
-    io::write_all(1, b"\n");
+    println!(rt)
 }
 
-fn show_row(kind: usize, first: u64)
+fn show_row(rt: &impl Print, kind: usize, first: u64) -> io::Result<()>
     requires { kind < 4 }
 {
     for field in 0..8 {
-        show(kind, field, first);
+        show(rt, kind, field, first)?;
     }
+    Ok(())
 }
 
-fn show_table(first: u64) {
+fn show_table(rt: &impl Print, first: u64) -> io::Result<()> {
     for kind in 0..4 {
-        show_row(kind, first);
+        show_row(rt, kind, first)?;
     }
+    Ok(())
 }
 
-fn main() {
-    show_table(0);
-    show_table(1);
-    show_table(2);
+fn main(rt: HostRuntime) -> io::Result<()> {
+    show_table(&rt, 0)?;
+    show_table(&rt, 1)?;
+    show_table(&rt, 2)
 }
