@@ -1,7 +1,6 @@
 use mathlib.Core.Logic.{inl, inr}
 use native.Mathlib.Omega.{arith}
 use borrow.Author.Tests.{leb-true, leb-false}
-use borrow.Author.Rules.{rules}
 use Rattle.answers.proofs.is_line.Goals as goal
 
 pub returns-then-line-ge1 : goal.returns-then-line-ge1

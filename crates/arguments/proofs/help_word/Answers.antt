@@ -3,7 +3,6 @@ use mathlib.Core.List.{[], ◌∷◌}
 use Rattle.model.specs.declared.Word.{Word}
 use Rattle.model.specs.Commands.{bytes, help_words}
 use Rattle.arguments.proofs.Asking.{look-here, look-on, look_none}
-use borrow.Author.Rules.{rules}
 use Rattle.arguments.proofs.help_word.Goals as goal
 
 pub returns-then-same_word : goal.returns-then-same_word

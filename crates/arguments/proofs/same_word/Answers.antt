@@ -1,7 +1,5 @@
-use Prim.Native.Nat.{◌-◌}
-use lib.ListN.{length}
 use borrow.Author.Rules.{rules}
-use Rattle.arguments.proofs.Words.{lengths_differ, Alike, alike-start, alike_next, alike-not, alike_end}
+use Rattle.arguments.proofs.Words.{lengths_differ, alike-start, alike_next, alike-not, alike_end}
 use Rattle.arguments.proofs.same_word.Goals as goal
 
 pub returns-then-a-b : goal.returns-then-a-b

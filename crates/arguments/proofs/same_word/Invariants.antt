@@ -1,7 +1,6 @@
 use Prim.Native.Nat.{◌-◌}
 use lib.ListN.{length}
-use borrow.Author.Rules.{rules}
-use Rattle.arguments.proofs.Words.{lengths_differ, Alike, alike-start, alike_next, alike-not, alike_end}
+use Rattle.arguments.proofs.Words.{Alike}
 use Rattle.arguments.proofs.same_word.Given as goal
 
 abbrev pub invariant-loop-i : goal.invariant-loop-i

@@ -1,9 +1,6 @@
-use borrow.Author.Rules.{rules}
-use mathlib.Core.Path.{◌≡◌}
-use Prim.Native.Nat.{◌+◌, ◌*◌, ◌-◌, ◌^◌, ◌≤◌}
+use Prim.Native.Nat.{◌+◌}
 use native.Mathlib.Omega.{arith}
-use Rattle.model.specs.Ceiling.{set_count}
-use Rattle.binomials.proofs.Entries.{columns, columns-first, columns-all, columns-none}
+use Rattle.binomials.proofs.Entries.{columns-first, columns-all, columns-none}
 use Rattle.binomials.proofs.set_count.Goals as goal
 
 pub loop-column-init : goal.loop-column-init

@@ -1,9 +1,7 @@
-use borrow.Author.Rules.{rules}
 use mathlib.Core.Path.{◌≡◌}
 use Prim.Native.Nat.{◌+◌, ◌*◌, ◌-◌, ◌^◌, ◌≤◌}
-use native.Mathlib.Omega.{arith}
 use Rattle.model.specs.Ceiling.{set_count}
-use Rattle.binomials.proofs.Entries.{columns, columns-first, columns-all, columns-none}
+use Rattle.binomials.proofs.Entries.{columns}
 use Rattle.binomials.proofs.set_count.Given as goal
 
 abbrev pub invariant-loop-column : goal.invariant-loop-column

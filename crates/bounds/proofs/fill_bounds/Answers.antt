@@ -2,7 +2,7 @@ use native.Mathlib.Omega.{arith}
 use Prim.Native.Nat.{◌-◌}
 use mathlib.Core.Path.{refl}
 use lib.ListN.{replicate}
-use Rattle.bounds.proofs.Columns.{Built, built-none, built-more, ordered-before, ordered-after, ordered-falls, ordered-small}
+use Rattle.bounds.proofs.Columns.{built-none, built-more, ordered-before, ordered-after, ordered-falls, ordered-small}
 use Rattle.bounds.proofs.fill_bounds.Goals as goal
 
 pub write_sums-requires : goal.write_sums-requires

@@ -1,8 +1,4 @@
-use native.Mathlib.Omega.{arith}
-use Prim.Native.Nat.{◌-◌}
-use mathlib.Core.Path.{refl}
-use lib.ListN.{replicate}
-use Rattle.bounds.proofs.Columns.{Built, built-none, built-more, ordered-before, ordered-after, ordered-falls, ordered-small}
+use Rattle.bounds.proofs.Columns.{Built}
 use Rattle.bounds.proofs.fill_bounds.Given as goal
 
 abbrev pub invariant-loop-q : goal.invariant-loop-q

@@ -1,7 +1,4 @@
-use native.Mathlib.Omega.{arith}
-use Prim.Native.Nat.{◌-◌}
-use mathlib.Core.Logic.{⊎_elim}
-use Rattle.bounds.proofs.Inserting.{Inserts, inserts-none, inserts-here, inserts-past, inserts-all}
+use Rattle.bounds.proofs.Inserting.{inserts-none, inserts-here, inserts-past, inserts-all}
 use Rattle.bounds.proofs.insert_falling.Goals as goal
 use Rattle.bounds.proofs.insert_falling.Goals.{then-held-next, else-held-next}
 

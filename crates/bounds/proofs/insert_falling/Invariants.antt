@@ -1,7 +1,5 @@
-use native.Mathlib.Omega.{arith}
 use Prim.Native.Nat.{◌-◌}
-use mathlib.Core.Logic.{⊎_elim}
-use Rattle.bounds.proofs.Inserting.{Inserts, inserts-none, inserts-here, inserts-past, inserts-all}
+use Rattle.bounds.proofs.Inserting.{Inserts}
 use Rattle.bounds.proofs.insert_falling.Given as goal
 
 abbrev pub invariant-loop-i : goal.invariant-loop-i

@@ -1,4 +1,3 @@
-use native.Mathlib.Omega.{arith}
 use Rattle.bounds.proofs.Entries.{bound-is}
 use Rattle.bounds.proofs.most_saved.Goals as goal
 

@@ -1,11 +1,10 @@
-use Prim.Native.Nat.{◌≤◌, ◌-◌, ◌+◌}
-use mathlib.Core.Path.{◌≡◌, refl, ◌∙◌}
-use mathlib.Core.Logic.{⊎_elim}
+use Prim.Native.Nat.{◌+◌}
+use mathlib.Core.Path.{refl, ◌∙◌}
 use native.Mathlib.Omega.{arith}
 use lib.ListN.{take}
 use Rattle.model.specs.Lists.{sum}
 use Rattle.theory.specs.Sizes.{take-most}
-use Rattle.bounds.proofs.Columns.{Rows, rows_none, rows_more, sum-within, sum-beyond}
+use Rattle.bounds.proofs.Columns.{rows_none, rows_more, sum-within, sum-beyond}
 use Rattle.bounds.proofs.write_sums.Goals as goal
 use Rattle.bounds.proofs.write_sums.Goals.{then-r-size, else-r-size}
 

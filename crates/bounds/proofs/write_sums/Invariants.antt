@@ -1,11 +1,8 @@
-use Prim.Native.Nat.{◌≤◌, ◌-◌, ◌+◌}
-use mathlib.Core.Path.{◌≡◌, refl, ◌∙◌}
-use mathlib.Core.Logic.{⊎_elim}
-use native.Mathlib.Omega.{arith}
+use Prim.Native.Nat.{◌≤◌, ◌-◌}
+use mathlib.Core.Path.{◌≡◌}
 use lib.ListN.{take}
 use Rattle.model.specs.Lists.{sum}
-use Rattle.theory.specs.Sizes.{take-most}
-use Rattle.bounds.proofs.Columns.{Rows, rows_none, rows_more, sum-within, sum-beyond}
+use Rattle.bounds.proofs.Columns.{Rows}
 use Rattle.bounds.proofs.write_sums.Given as goal
 
 abbrev pub invariant-loop-r : goal.invariant-loop-r

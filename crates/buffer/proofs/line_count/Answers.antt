@@ -1,6 +1,5 @@
 use mathlib.Core.Path.{sym}
 use Rattle.buffer.specs.Fields.{line-count}
-use borrow.Author.Rules.{rules}
 use Rattle.buffer.proofs.line_count.Goals as goal
 
 pub returns : goal.returns

@@ -1,7 +1,6 @@
 use mathlib.Core.Path.{refl}
 use Rattle.model.specs.Network.{head_of}
 use Rattle.buffer.specs.Buffer.{network_in}
-use borrow.Author.Rules.{rules}
 use Rattle.buffer.proofs.money.Goals as goal
 
 pub returns : goal.returns

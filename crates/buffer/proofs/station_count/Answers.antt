@@ -1,6 +1,5 @@
 use mathlib.Core.Path.{sym}
 use Rattle.buffer.specs.Fields.{station-count}
-use borrow.Author.Rules.{rules}
 use Rattle.buffer.proofs.station_count.Goals as goal
 
 pub returns : goal.returns

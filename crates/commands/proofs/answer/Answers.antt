@@ -3,7 +3,6 @@ use lib.Seq.{length-take-le}
 use Rattle.model.specs.Calls.{text_or_x}
 use Rattle.model.specs.Commands.{prints}
 use Rattle.commands.proofs.Answering.{as_many}
-use borrow.Author.Rules.{rules}
 use Rattle.commands.proofs.answer.Goals as goal
 
 pub slice_bounds-ask-end : goal.slice_bounds-ask-end

@@ -1,6 +1,5 @@
 use Rattle.commands.proofs.Answering.{report-left}
 use native.Mathlib.Omega.{arith}
-use borrow.Author.Rules.{rules}
 use Rattle.commands.proofs.ask_report.Goals as goal
 
 pub returns : goal.returns

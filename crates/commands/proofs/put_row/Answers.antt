@@ -1,5 +1,4 @@
 use Rattle.plans.proofs.Planning.{written-left}
-use borrow.Author.Rules.{rules}
 use Rattle.commands.proofs.put_row.Goals as goal
 
 pub returns : goal.returns

@@ -1,5 +1,4 @@
 use mathlib.Core.Path.{sym, ◌∙◌}
-use borrow.Author.Rules.{rules}
 use Rattle.model.specs.Rules.{both_open}
 use Rattle.end_rules.proofs.both_open.Goals as goal
 

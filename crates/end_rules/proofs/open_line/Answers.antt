@@ -1,8 +1,7 @@
 use Prim.Native.Nat.{◌-◌}
 use borrow.Author.Rules.{rules}
 use Rattle.model.specs.Rules.{both_open}
-use Rattle.buffer.specs.Buffer.{network_in}
-use Rattle.end_rules.proofs.Looking.{Looking, looking-start, looking-next, looking-here, looking-end}
+use Rattle.end_rules.proofs.Looking.{looking-start, looking-next, looking-here, looking-end}
 use Rattle.end_rules.proofs.open_line.Goals as goal
 
 pub loop-line-init : goal.loop-line-init

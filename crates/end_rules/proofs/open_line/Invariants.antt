@@ -1,8 +1,7 @@
 use Prim.Native.Nat.{◌-◌}
-use borrow.Author.Rules.{rules}
 use Rattle.model.specs.Rules.{both_open}
 use Rattle.buffer.specs.Buffer.{network_in}
-use Rattle.end_rules.proofs.Looking.{Looking, looking-start, looking-next, looking-here, looking-end}
+use Rattle.end_rules.proofs.Looking.{Looking}
 use Rattle.end_rules.proofs.open_line.Given as goal
 
 -- No line before this one has both ends open.

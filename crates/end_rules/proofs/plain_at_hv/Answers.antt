@@ -1,8 +1,6 @@
 use Prim.Native.Nat.{◌-◌}
 use borrow.Author.Rules.{rules}
-use Rattle.model.specs.Rules.{unprotected}
-use Rattle.buffer.specs.Buffer.{network_in}
-use Rattle.end_rules.proofs.Looking.{Looking, looking-start, looking-next, looking-here, looking-end}
+use Rattle.end_rules.proofs.Looking.{looking-start, looking-next, looking-here, looking-end}
 use Rattle.end_rules.proofs.plain_at_hv.Goals as goal
 
 pub loop-line-init : goal.loop-line-init

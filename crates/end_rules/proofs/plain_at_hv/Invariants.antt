@@ -1,8 +1,7 @@
 use Prim.Native.Nat.{◌-◌}
-use borrow.Author.Rules.{rules}
 use Rattle.model.specs.Rules.{unprotected}
 use Rattle.buffer.specs.Buffer.{network_in}
-use Rattle.end_rules.proofs.Looking.{Looking, looking-start, looking-next, looking-here, looking-end}
+use Rattle.end_rules.proofs.Looking.{Looking}
 use Rattle.end_rules.proofs.plain_at_hv.Given as goal
 
 -- No line before this one has a plain end at an HV station.

@@ -1,5 +1,4 @@
 use native.Mathlib.Omega.{arith}
-use borrow.Author.Rules.{rules}
 use Rattle.buffer.specs.Buffer.{network_in}
 use Rattle.buffer.specs.Fits.{end_in}
 use Rattle.theory.specs.Radial.{station-in}

@@ -1,5 +1,4 @@
 use native.Mathlib.Omega.{arith}
-use borrow.Author.Rules.{rules}
 use Rattle.loading.proofs.Loads.{accepted-holds}
 use Rattle.engine.proofs.Answers.{impact-refused, impact-given, impact-none}
 use Rattle.engine.proofs.impact.Goals as goal

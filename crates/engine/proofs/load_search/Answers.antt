@@ -1,4 +1,3 @@
-use borrow.Author.Rules.{rules}
 use Rattle.loading.proofs.Loads.{accepted-holds}
 use Rattle.engine.proofs.Found.{found-refused, found-given}
 use Rattle.engine.proofs.load_search.Goals as goal

@@ -1,4 +1,3 @@
-use borrow.Author.Rules.{rules}
 use Rattle.loading.proofs.Loads.{accepted-holds}
 use Rattle.engine.proofs.Reporting.{short-refused, file-refused, file-reported}
 use Rattle.engine.proofs.report.Goals as goal

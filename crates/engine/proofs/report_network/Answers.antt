@@ -1,5 +1,4 @@
 use mathlib.Core.Path.{◌∙◌}
-use borrow.Author.Rules.{rules}
 use Rattle.planning.specs.Planned.{found-is}
 use Rattle.engine.proofs.report_network.Goals as goal
 

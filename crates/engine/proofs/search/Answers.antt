@@ -3,7 +3,6 @@ use mathlib.Core.List.{◌++◌}
 use native.Mathlib.Omega.{arith}
 use lib.ListN.{take, drop}
 use Rattle.engine.proofs.Calling.{short-refused, file-answered}
-use borrow.Author.Rules.{rules}
 use Rattle.engine.proofs.search.Goals as goal
 
 pub returns-then-short_members : goal.returns-then-short_members

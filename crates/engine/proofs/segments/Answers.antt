@@ -1,4 +1,3 @@
-use borrow.Author.Rules.{rules}
 use Rattle.loading.proofs.Loads.{accepted-holds}
 use Rattle.engine.proofs.Tabling.{short-refused, file-refused, file-tabled}
 use Rattle.engine.proofs.segments.Goals as goal

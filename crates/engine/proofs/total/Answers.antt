@@ -1,5 +1,4 @@
 use mathlib.Core.Path.{◌∙◌}
-use borrow.Author.Rules.{rules}
 use Rattle.loading.proofs.Loads.{accepted-holds}
 use Rattle.engine.proofs.Answers.{total-refused, total-given}
 use Rattle.engine.proofs.total.Goals as goal

@@ -1,9 +1,4 @@
-use borrow.Author.Rules.{rules}
-use mathlib.Core.Path.{◌≡◌}
-use Prim.Native.Nat.{◌+◌, ◌-◌, ◌≤◌}
 use native.Mathlib.Omega.{arith}
-use lib.ListN.{length, drop}
-use Rattle.fields.specs.Fields.{up_to}
 use Rattle.fields.proofs.Ends.{at-separator, at_other, at-end}
 use Rattle.fields.proofs.part_end.Goals as goal
 

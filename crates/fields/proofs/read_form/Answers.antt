@@ -1,9 +1,6 @@
-use borrow.Author.Rules.{rules}
-use mathlib.Core.Path.{◌≡◌, refl, sym, ap, ◌∙◌}
-use Prim.Native.Nat.{◌-◌, ◌≤◌}
+use mathlib.Core.Path.{refl, sym, ap, ◌∙◌}
 use native.Mathlib.Omega.{arith}
 use lib.ListN.{length, length-set}
-use Rattle.model.specs.Format.{after_letter, fields_of}
 use Rattle.fields.specs.Fields.{number_says, form_says}
 use Rattle.fields.proofs.Fields.{on_from, letter-right, letter-wrong, kind-wrong, no_field, bad-field, next_field, all_read}
 use Rattle.fields.proofs.read_form.Goals as goal

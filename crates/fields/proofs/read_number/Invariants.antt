@@ -1,12 +1,8 @@
-use borrow.Author.Rules.{rules}
-use mathlib.Core.Path.{◌≡◌, refl, sym, ◌∙◌}
-use mathlib.Core.Logic.{⊎_elim, inl, inr}
+use mathlib.Core.Path.{◌≡◌}
 use Prim.Native.Nat.{◌^◌, ◌-◌, ◌≤◌, ◌<◌}
-use native.Mathlib.Omega.{arith}
 use lib.ListN.{length, drop}
 use Rattle.model.specs.Format.{number_of}
-use Rattle.fields.specs.Fields.{number_says}
-use Rattle.fields.proofs.Digits.{digits_from, empty, long, zero-first, starts, low, high, more, ended, tens, below-ten-digits}
+use Rattle.fields.proofs.Digits.{digits_from}
 use Rattle.fields.proofs.read_number.Given as goal
 
 abbrev pub invariant-loop-i : goal.invariant-loop-i

@@ -1,5 +1,4 @@
 use mathlib.Core.Path.{refl}
-use borrow.Author.Rules.{rules}
 use Rattle.model.specs.Calls.{search_says, written}
 use Rattle.theory.specs.Refusals.{search-bounded}
 use Rattle.jubaxendi.specs.Numbers.{returned, answer_leaves, search_values}

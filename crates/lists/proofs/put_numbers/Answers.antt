@@ -1,9 +1,8 @@
-use Prim.Native.Nat.{◌-◌, ◌≤◌}
 use mathlib.Core.Path.{◌≡◌, subst}
 use mathlib.Core.List.{◌++◌}
 use native.Mathlib.Omega.{arith}
 use lib.ListN.{take, drop}
-use Rattle.lists.proofs.Writing.{Put, put-none, put-more, put_all}
+use Rattle.lists.proofs.Writing.{put-none, put-more, put_all}
 use Rattle.lists.proofs.put_numbers.Goals as goal
 
 pub loop-i-init : goal.loop-i-init

@@ -1,4 +1,3 @@
-use borrow.Author.Rules.{rules}
 use Rattle.loading.proofs.Turns.{not-accepted}
 use Rattle.loading.proofs.Loads.{same_answer, accepted-holds}
 use Rattle.loading.proofs.load_impacts.Goals as goal

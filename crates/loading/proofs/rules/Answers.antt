@@ -26,9 +26,12 @@ returns-then-over_series c =
     record { net_value = all.0; prepared = all.1 }
 
 pub returns : goal.returns
-returns c = record { net_value = series-held c.args.net.now c.forest_rules.result (c.forest_rules.ensures.next_value, c.forest_rules.ensures.rules) c.in-Accepted.is (sym c.over_series.ensures ∙ c.if-over_series.false); prepared = λ a. record {
+returns c = record {
+  net_value = series-held c.args.net.now c.forest_rules.result (c.forest_rules.ensures.next_value, c.forest_rules.ensures.rules) c.in-Accepted.is (sym c.over_series.ensures ∙ c.if-over_series.false);
+  prepared = λ a. record {
     linked = c.link_ends.ensures;
     outwards = c.outwards.ensures;
     tripping = c.fill_trips.ensures.trips;
     counted = c.fill_trips.ensures.counts;
-  } }
+  };
+}

@@ -1,6 +1,5 @@
 use mathlib.Core.Path.{sym, ap, ◌∙◌}
 use Rattle.graphs.specs.Sum.{on}
-use borrow.Author.Rules.{rules}
 use Rattle.marks.proofs.breaker_mark.Goals as goal
 
 pub returns-then-is_breaker : goal.returns-then-is_breaker

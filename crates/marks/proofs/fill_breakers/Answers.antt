@@ -1,13 +1,11 @@
-use borrow.Author.Rules.{rules}
-use Prim.Native.Nat.{◌+◌, ◌*◌, ◌-◌, ◌≤◌}
-use mathlib.Core.Path.{◌≡◌}
+use Prim.Native.Nat.{◌-◌}
 use native.Mathlib.Omega.{arith}
-use lib.ListN.{length, length-set}
+use lib.ListN.{length-set}
 use Rattle.model.specs.Paths.{is_breaker}
 use Rattle.graphs.specs.Sum.{on}
 use Rattle.buffer.specs.Buffer.{network_in}
 use Rattle.tree.specs.Linked.{code_end}
-use Rattle.marks.proofs.Marking.{Below, below_next}
+use Rattle.marks.proofs.Marking.{below_next}
 use Rattle.marks.proofs.fill_breakers.Goals as goal
 
 pub loop-code-init : goal.loop-code-init

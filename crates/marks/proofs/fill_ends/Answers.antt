@@ -1,9 +1,7 @@
-use Rattle.marks.proofs.Marking.{Below, below_next}
-use borrow.Author.Rules.{rules}
-use Prim.Native.Nat.{◌+◌, ◌-◌, ◌≤◌}
-use mathlib.Core.Path.{◌≡◌}
+use Rattle.marks.proofs.Marking.{below_next}
+use Prim.Native.Nat.{◌-◌}
 use native.Mathlib.Omega.{arith}
-use lib.ListN.{length, length-set}
+use lib.ListN.{length-set}
 use Rattle.savings.specs.Breakers.{end_at}
 use Rattle.buffer.specs.Buffer.{network_in}
 use Rattle.tree.specs.Linked.{end_code}

@@ -1,9 +1,7 @@
-use Rattle.marks.proofs.Marking.{Below, below_next}
-use borrow.Author.Rules.{rules}
+use Rattle.marks.proofs.Marking.{Below}
 use Prim.Native.Nat.{◌+◌, ◌-◌, ◌≤◌}
 use mathlib.Core.Path.{◌≡◌}
-use native.Mathlib.Omega.{arith}
-use lib.ListN.{length, length-set}
+use lib.ListN.{length}
 use Rattle.savings.specs.Breakers.{end_at}
 use Rattle.buffer.specs.Buffer.{network_in}
 use Rattle.tree.specs.Linked.{end_code}

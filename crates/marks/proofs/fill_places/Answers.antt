@@ -1,8 +1,6 @@
-use borrow.Author.Rules.{rules}
-use Prim.Native.Nat.{◌≤◌}
-use mathlib.Core.Path.{◌≡◌, sym, subst}
+use mathlib.Core.Path.{sym, subst}
 use native.Mathlib.Omega.{arith}
-use lib.ListN.{length, length-set}
+use lib.ListN.{length-set}
 use Rattle.buffer.specs.Buffer.{network_in}
 use Rattle.marks.proofs.Marking.{MarksAbove, marks-none, marks-next, marks-all}
 use Rattle.marks.proofs.fill_places.Goals as goal

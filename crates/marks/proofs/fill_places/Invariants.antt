@@ -1,10 +1,8 @@
-use borrow.Author.Rules.{rules}
 use Prim.Native.Nat.{◌≤◌}
-use mathlib.Core.Path.{◌≡◌, sym, subst}
-use native.Mathlib.Omega.{arith}
-use lib.ListN.{length, length-set}
+use mathlib.Core.Path.{◌≡◌}
+use lib.ListN.{length}
 use Rattle.buffer.specs.Buffer.{network_in}
-use Rattle.marks.proofs.Marking.{MarksAbove, marks-none, marks-next, marks-all}
+use Rattle.marks.proofs.Marking.{MarksAbove}
 use Rattle.marks.proofs.fill_places.Given as goal
 
 abbrev pub invariant-loop-marks : goal.invariant-loop-marks

@@ -1,14 +1,14 @@
 use mathlib.Core.Path.{◌≡◌, refl, sym, ap, ◌∙◌, subst}
 use native.Mathlib.Omega.{arith}
-use lib.ListN.{length, get_or, set, length-set}
+use lib.ListN.{length, get_or, set}
 use Rattle.buffer.specs.Buffer.{network_in}
 use Rattle.tree.specs.Linked.{code_end}
 use Rattle.outage.specs.Below.{Filled}
 use Rattle.outage.proofs.Paths.{station-levels, at-line}
-use Rattle.outage.proofs.Chains.{most_left, Part, part-start, part-sum, part_filled, part-code, part-less, part-skip, part-leaves, part-fits, part-more, station-size}
+use Rattle.outage.proofs.Chains.{Part, part-start, part-sum, part_filled, part-less, part-skip, part-leaves, part-fits, part-more, station-size}
 use Rattle.tree.proofs.Fitting.{read_fits}
 use Rattle.outage.proofs.Calls.{line_code, line-left, far-there, far-station, connected-sum, connected-filled, hanging-sum, hanging-filled}
-use Prim.Native.Nat.{ℕ, ◌+◌, ◌-◌, ◌/◌, ◌<◌}
+use Prim.Native.Nat.{◌+◌, ◌-◌, ◌/◌}
 use Rattle.outage.proofs.+line_sum_station_sum.Goals as goal
 use Rattle.outage.proofs.+line_sum_station_sum.Goals.{line_sum-then-not-hangs, line_sum-else-not-hangs, station_sum-then-end-came, station_sum-else-end-came}
 

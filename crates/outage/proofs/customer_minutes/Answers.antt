@@ -1,7 +1,6 @@
 use Prim.Native.Nat.{◌*◌, ◌≤◌}
 use native.Mathlib.Nat.{mul-le-mul}
 use native.Mathlib.Omega.{arith}
-use borrow.Author.Rules.{rules}
 use Rattle.outage.proofs.customer_minutes.Goals as goal
 
 pub overflow_mul-result : goal.overflow_mul-result

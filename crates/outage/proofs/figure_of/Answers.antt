@@ -3,7 +3,6 @@ use native.Mathlib.Omega.{arith}
 use Rattle.theory.specs.Sizes.{read-sized, total_size}
 use Rattle.buffer.specs.Buffer.{network_in}
 use Rattle.outage.proofs.Totals.{figure-is}
-use borrow.Author.Rules.{rules}
 use Rattle.outage.proofs.figure_of.Goals as goal
 
 pub customer_minutes-requires : goal.customer_minutes-requires

@@ -1,11 +1,10 @@
-use borrow.Author.Rules.{rules}
-use Prim.Native.Nat.{◌-◌, ◌≤◌}
-use mathlib.Core.Path.{◌≡◌, refl}
+use Prim.Native.Nat.{◌-◌}
+use mathlib.Core.Path.{refl}
 use native.Mathlib.Omega.{arith}
-use lib.ListN.{length, length-set}
+use lib.ListN.{length-set}
 use Rattle.buffer.specs.Buffer.{network_in}
 use Rattle.tree.proofs.Fitting.{read_fits}
-use Rattle.outage.proofs.Breakers.{trip-in, trip-impact, Upto, upto-more}
+use Rattle.outage.proofs.Breakers.{trip-in, trip-impact, upto-more}
 use Rattle.outage.proofs.impacts_behind.Goals as goal
 
 pub loop-i-init : goal.loop-i-init

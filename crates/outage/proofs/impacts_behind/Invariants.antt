@@ -1,11 +1,8 @@
-use borrow.Author.Rules.{rules}
 use Prim.Native.Nat.{◌-◌, ◌≤◌}
-use mathlib.Core.Path.{◌≡◌, refl}
-use native.Mathlib.Omega.{arith}
-use lib.ListN.{length, length-set}
+use mathlib.Core.Path.{◌≡◌}
+use lib.ListN.{length}
 use Rattle.buffer.specs.Buffer.{network_in}
-use Rattle.tree.proofs.Fitting.{read_fits}
-use Rattle.outage.proofs.Breakers.{trip-in, trip-impact, Upto, upto-more}
+use Rattle.outage.proofs.Breakers.{Upto}
 use Rattle.outage.proofs.impacts_behind.Given as goal
 
 abbrev pub invariant-loop-i : goal.invariant-loop-i

@@ -3,7 +3,6 @@ use native.Mathlib.Omega.{arith}
 use Rattle.theory.specs.Sizes.{outage_amount-size}
 use Rattle.buffer.specs.Buffer.{network_in}
 use Rattle.outage.proofs.Totals.{amount-is}
-use borrow.Author.Rules.{rules}
 use Rattle.outage.proofs.outage_amount.Goals as goal
 
 pub times-requires : goal.times-requires

@@ -1,16 +1,9 @@
-use borrow.Author.Rules.{rules}
-use Prim.Native.Nat.{◌+◌, ◌*◌, ◌-◌, ◌≤◌}
-use mathlib.Core.Path.{◌≡◌, refl, sym, ap, ◌∙◌, subst}
-use mathlib.Core.Logic.{⊎_elim}
-use native.Mathlib.Omega.{arith}
+use Prim.Native.Nat.{◌+◌, ◌-◌, ◌≤◌}
+use mathlib.Core.Path.{◌≡◌}
 use lib.ListN.{length}
 use Rattle.buffer.specs.Buffer.{network_in}
-use Rattle.tree.specs.Linked.{code_end}
 use Rattle.outage.specs.Below.{Filled}
-use Rattle.outage.proofs.Paths.{at-hv}
-use Rattle.tree.proofs.Lengths.{closed-length}
-use Rattle.tree.proofs.Fitting.{read_fits}
-use Rattle.outage.proofs.HVStations.{AtHV, hv-none, hv-skip, hv-more, hv-all}
+use Rattle.outage.proofs.HVStations.{AtHV}
 use Rattle.outage.proofs.sums_outwards.Given as goal
 
 abbrev pub invariant-loop-station : goal.invariant-loop-station

@@ -1,9 +1,7 @@
-use borrow.Author.Rules.{rules}
-use Prim.Native.Nat.{◌+◌, ◌-◌, ◌≤◌}
-use mathlib.Core.Path.{◌≡◌, ap}
+use Prim.Native.Nat.{◌+◌, ◌-◌}
+use mathlib.Core.Path.{ap}
 use native.Mathlib.Omega.{arith}
 use lib.ListN.{length}
-use Rattle.model.specs.Outage.{total}
 use Rattle.theory.specs.Sizes.{total_size, read-sized}
 use Rattle.buffer.specs.Buffer.{network_in}
 use Rattle.tree.proofs.Fitting.{read_fits}

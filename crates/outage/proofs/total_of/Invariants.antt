@@ -1,13 +1,9 @@
-use borrow.Author.Rules.{rules}
 use Prim.Native.Nat.{◌+◌, ◌-◌, ◌≤◌}
-use mathlib.Core.Path.{◌≡◌, ap}
-use native.Mathlib.Omega.{arith}
+use mathlib.Core.Path.{◌≡◌}
 use lib.ListN.{length}
 use Rattle.model.specs.Outage.{total}
-use Rattle.theory.specs.Sizes.{total_size, read-sized}
 use Rattle.buffer.specs.Buffer.{network_in}
-use Rattle.tree.proofs.Fitting.{read_fits}
-use Rattle.outage.proofs.Totals.{amounts_from, amounts-all, amounts-none, amounts-first}
+use Rattle.outage.proofs.Totals.{amounts_from}
 use Rattle.outage.proofs.total_of.Given as goal
 
 abbrev pub invariant-loop-line : goal.invariant-loop-line

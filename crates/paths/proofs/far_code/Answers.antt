@@ -1,6 +1,5 @@
 use native.Mathlib.Omega.{arith}
 use Rattle.paths.proofs.FarEnds.{side-in, far-coded}
-use borrow.Author.Rules.{rules}
 use Rattle.paths.proofs.far_code.Goals as goal
 
 pub overflow_sub-result-2 : goal.overflow_sub-result-2

@@ -2,7 +2,6 @@ use lib.ListN.{get_or}
 use mathlib.Core.Path.{sym, ap}
 use borrow.Author.Tests.{eq-eqb, ne_eqb}
 use Rattle.savings.specs.First.{this}
-use borrow.Author.Rules.{rules}
 use Rattle.paths.proofs.first_from.Goals as goal
 
 pub returns-then-own-eq0 : goal.returns-then-own-eq0

@@ -2,7 +2,6 @@ use mathlib.Core.Path.{◌∙◌, sym, ap}
 use native.Mathlib.Omega.{arith}
 use lib.ListN.{get_or}
 use Rattle.paths.proofs.Meeting.{meets-unmarked, meets-marked}
-use borrow.Author.Rules.{rules}
 use Rattle.paths.proofs.met_from.Goals as goal
 
 pub returns-then-mark-eq0 : goal.returns-then-mark-eq0

@@ -1,10 +1,9 @@
-use borrow.Author.Rules.{rules}
-use Prim.Native.Nat.{◌-◌, ◌≤◌}
-use mathlib.Core.Path.{◌≡◌, refl}
+use Prim.Native.Nat.{◌-◌}
+use mathlib.Core.Path.{refl}
 use native.Mathlib.Omega.{arith}
-use lib.ListN.{length, length-set}
+use lib.ListN.{length-set}
 use Rattle.buffer.specs.Buffer.{network_in}
-use Rattle.paths.proofs.Passing.{Done, next_known, done_more, done_all}
+use Rattle.paths.proofs.Passing.{next_known, done_more, done_all}
 use Rattle.paths.proofs.met_outwards.Goals as goal
 
 pub loop-i-init : goal.loop-i-init

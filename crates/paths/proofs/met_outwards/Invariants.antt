@@ -1,10 +1,8 @@
-use borrow.Author.Rules.{rules}
 use Prim.Native.Nat.{◌-◌, ◌≤◌}
-use mathlib.Core.Path.{◌≡◌, refl}
-use native.Mathlib.Omega.{arith}
-use lib.ListN.{length, length-set}
+use mathlib.Core.Path.{◌≡◌}
+use lib.ListN.{length}
 use Rattle.buffer.specs.Buffer.{network_in}
-use Rattle.paths.proofs.Passing.{Done, next_known, done_more, done_all}
+use Rattle.paths.proofs.Passing.{Done}
 use Rattle.paths.proofs.met_outwards.Given as goal
 
 abbrev pub invariant-loop-i : goal.invariant-loop-i

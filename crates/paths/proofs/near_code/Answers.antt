@@ -1,6 +1,5 @@
 use native.Mathlib.Omega.{arith}
 use Rattle.paths.proofs.FarEnds.{side-in, near-coded}
-use borrow.Author.Rules.{rules}
 use Rattle.paths.proofs.near_code.Goals as goal
 
 pub overflow_add-result : goal.overflow_add-result

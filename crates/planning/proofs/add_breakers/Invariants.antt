@@ -1,10 +1,8 @@
 use Prim.Native.Nat.{◌-◌, ◌≤◌}
-use mathlib.Core.Path.{◌≡◌, refl, subst}
-use native.Mathlib.Omega.{arith}
+use mathlib.Core.Path.{◌≡◌}
 use lib.ListN.{take}
 use Rattle.model.specs.Sets.{with_breakers}
 use Rattle.buffer.specs.Buffer.{network_in}
-use Rattle.planning.proofs.Changing.{place-there, end-there, one_more}
 use Rattle.planning.proofs.add_breakers.Given as goal
 
 abbrev pub invariant-loop-i : goal.invariant-loop-i

@@ -1,7 +1,6 @@
 use Rattle.model.specs.Commands.{commanded}
 use Rattle.loading.proofs.Loads.{accepted-holds}
 use Rattle.plans.proofs.Planning.{refused-left, file-left}
-use borrow.Author.Rules.{rules}
 use Rattle.plans.proofs.plan.Goals as goal
 
 pub plan_network-requires : goal.plan_network-requires

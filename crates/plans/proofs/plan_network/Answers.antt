@@ -1,6 +1,5 @@
 use mathlib.Core.Path.{◌∙◌}
 use Rattle.planning.specs.Planned.{found-is}
-use borrow.Author.Rules.{rules}
 use Rattle.plans.proofs.plan_network.Goals as goal
 
 pub write_plan-requires : goal.write_plan-requires

@@ -1,9 +1,7 @@
 use Prim.Native.Nat.{◌-◌}
 use mathlib.Core.Path.{refl}
 use native.Mathlib.Omega.{arith}
-use lib.ListN.{take}
-use Rattle.buffer.specs.Buffer.{network_in}
-use Rattle.prospects.proofs.Entering.{Written, row, last-few, place-few, written_none, later-place, written-more, written_all}
+use Rattle.prospects.proofs.Entering.{row, last-few, place-few, written_none, later-place, written-more, written_all}
 use Rattle.prospects.proofs.enter.Goals as goal
 
 pub overflow_mul-row : goal.overflow_mul-row

@@ -1,4 +1,3 @@
-use native.Mathlib.Omega.{arith}
 use Rattle.prospects.proofs.Undoing.{keep-is}
 use Rattle.prospects.proofs.keep.Goals as goal
 

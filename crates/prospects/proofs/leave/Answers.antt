@@ -1,10 +1,6 @@
-use Prim.Native.Nat.{ℕ, ◌+◌, ◌*◌, ◌-◌, ◌≤◌}
-use mathlib.Core.Path.{◌≡◌, refl}
-use mathlib.Core.List.{List}
+use Prim.Native.Nat.{◌-◌}
+use mathlib.Core.Path.{refl}
 use native.Mathlib.Omega.{arith}
-use lib.ListN.{length}
-use Rattle.relations.specs.Lists.{many}
-use Rattle.prospects.specs.Changes.{Changed}
 use Rattle.prospects.proofs.Undoing.{changed-less, changed-back}
 use borrow.Author.Rules.{rules}
 use Rattle.prospects.proofs.leave.Goals as goal

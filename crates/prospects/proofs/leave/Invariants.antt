@@ -1,12 +1,9 @@
 use Prim.Native.Nat.{ℕ, ◌+◌, ◌*◌, ◌-◌, ◌≤◌}
-use mathlib.Core.Path.{◌≡◌, refl}
+use mathlib.Core.Path.{◌≡◌}
 use mathlib.Core.List.{List}
-use native.Mathlib.Omega.{arith}
 use lib.ListN.{length}
 use Rattle.relations.specs.Lists.{many}
 use Rattle.prospects.specs.Changes.{Changed}
-use Rattle.prospects.proofs.Undoing.{changed-less, changed-back}
-use borrow.Author.Rules.{rules}
 use Rattle.prospects.proofs.leave.Given as goal
 
 abbrev pub invariant-loop-i : goal.invariant-loop-i

@@ -1,4 +1,3 @@
-use native.Mathlib.Omega.{arith}
 use Rattle.prospects.proofs.Undoing.{put_is}
 use Rattle.prospects.proofs.put.Goals as goal
 

@@ -1,8 +1,7 @@
-use native.Mathlib.Omega.{arith}
 use Prim.Native.Nat.{◌+◌, ◌-◌}
 use mathlib.Core.Path.{◌∙◌}
 use Rattle.buffer.specs.Buffer.{network_in}
-use Rattle.prospects.proofs.Saving.{Saved, saving-is, rows_none, next-later, rows_more, rows_all}
+use Rattle.prospects.proofs.Saving.{saving-is, rows_none, next-later, rows_more, rows_all}
 use Rattle.prospects.proofs.savings_of.Goals as goal
 
 pub loop-i-init : goal.loop-i-init

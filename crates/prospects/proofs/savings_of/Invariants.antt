@@ -1,8 +1,6 @@
-use native.Mathlib.Omega.{arith}
-use Prim.Native.Nat.{◌+◌, ◌-◌}
-use mathlib.Core.Path.{◌∙◌}
+use Prim.Native.Nat.{◌-◌}
 use Rattle.buffer.specs.Buffer.{network_in}
-use Rattle.prospects.proofs.Saving.{Saved, saving-is, rows_none, next-later, rows_more, rows_all}
+use Rattle.prospects.proofs.Saving.{Saved}
 use Rattle.prospects.proofs.savings_of.Given as goal
 
 abbrev pub invariant-loop-i : goal.invariant-loop-i

@@ -1,6 +1,3 @@
-use native.Mathlib.Omega.{arith}
-use mathlib.Core.Logic.{⊎_elim}
-use borrow.Author.Tests.{eqb-true, eqb-false}
 use Rattle.prospects.proofs.Outlooks.{upstream-taken, upstream-kept}
 use Rattle.prospects.proofs.upstream_of.Goals as goal
 use Rattle.prospects.proofs.upstream_of.Goals.{else-relations-pending-eq1-via-then-relations-pending-eq1+else-upstream-outlook, else-relations-pending-eq1-via-else-relations-pending-eq1}

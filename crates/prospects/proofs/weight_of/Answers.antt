@@ -1,6 +1,4 @@
-use mathlib.Core.Logic.{⊎_elim}
 use native.Mathlib.Omega.{arith}
-use borrow.Author.Tests.{eqb-true, eqb-false}
 use Rattle.prospects.proofs.Outlooks.{weight-taken, weight-kept}
 use Rattle.prospects.proofs.weight_of.Goals as goal
 use Rattle.prospects.proofs.weight_of.Goals.{else-relations-pending-eq2-via-then-relations-pending-eq2+else-outlook-place, else-relations-pending-eq2-via-else-relations-pending-eq2}

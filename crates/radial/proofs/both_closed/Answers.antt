@@ -1,6 +1,5 @@
 use mathlib.Core.Path.{sym, ap, ◌∙◌}
 use mathlib.Core.Bool.{not}
-use borrow.Author.Rules.{rules}
 use Rattle.radial.proofs.both_closed.Goals as goal
 
 pub returns-then-not-is_open : goal.returns-then-not-is_open

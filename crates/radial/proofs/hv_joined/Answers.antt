@@ -1,12 +1,9 @@
-use Prim.Native.Nat.{◌+◌, ◌-◌, ◌≤◌}
-use mathlib.Core.Path.{◌≡◌, refl, sym, ◌∙◌}
-use mathlib.Core.Logic.{⊎_elim}
+use Prim.Native.Nat.{◌+◌, ◌-◌}
+use mathlib.Core.Path.{refl, sym, ◌∙◌}
 use native.Mathlib.Omega.{arith}
-use lib.ListN.{length, replicate}
-use borrow.Author.Rules.{rules}
-use Rattle.buffer.specs.Buffer.{network_in}
+use lib.ListN.{replicate}
 use Rattle.theory.specs.Gathering.{zeros}
-use Rattle.radial.specs.Stations.{Marked, Apart, label-there, marked_start, marked-skip, marked-set, apart-start, apart-skip, apart_next, marked-joined, apart-joined}
+use Rattle.radial.specs.Stations.{label-there, marked_start, marked-skip, marked-set, apart-start, apart-skip, apart_next, marked-joined, apart-joined}
 use Rattle.radial.proofs.hv_joined.Goals as goal
 use Rattle.radial.proofs.hv_joined.Goals.{then-is_hv+else-marks-x-eq1, else-is_hv}
 

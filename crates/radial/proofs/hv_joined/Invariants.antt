@@ -1,12 +1,8 @@
 use Prim.Native.Nat.{◌+◌, ◌-◌, ◌≤◌}
-use mathlib.Core.Path.{◌≡◌, refl, sym, ◌∙◌}
-use mathlib.Core.Logic.{⊎_elim}
-use native.Mathlib.Omega.{arith}
-use lib.ListN.{length, replicate}
-use borrow.Author.Rules.{rules}
+use mathlib.Core.Path.{◌≡◌}
+use lib.ListN.{length}
 use Rattle.buffer.specs.Buffer.{network_in}
-use Rattle.theory.specs.Gathering.{zeros}
-use Rattle.radial.specs.Stations.{Marked, Apart, label-there, marked_start, marked-skip, marked-set, apart-start, apart-skip, apart_next, marked-joined, apart-joined}
+use Rattle.radial.specs.Stations.{Marked, Apart}
 use Rattle.radial.proofs.hv_joined.Given as goal
 
 -- Of the stations before this one, the labels of the HV stations are marked, and no two of these are the same.

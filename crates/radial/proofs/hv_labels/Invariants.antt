@@ -1,12 +1,8 @@
 use Prim.Native.Nat.{◌+◌, ◌-◌, ◌≤◌}
-use mathlib.Core.Path.{◌≡◌, refl, sym, ◌∙◌, subst}
-use mathlib.Core.Logic.{⊎_elim}
-use native.Mathlib.Omega.{arith}
-use lib.ListN.{length, replicate}
-use borrow.Author.Rules.{rules}
+use mathlib.Core.Path.{◌≡◌}
+use lib.ListN.{length}
 use Rattle.buffer.specs.Buffer.{network_in}
-use Rattle.theory.specs.Gathering.{zeros}
-use Rattle.radial.specs.Stations.{Marked, label-there, marked_start, marked-skip, marked-set}
+use Rattle.radial.specs.Stations.{Marked}
 use Rattle.radial.proofs.hv_labels.Given as goal
 
 -- Of the stations before this one, the labels of the HV stations are marked.

@@ -1,12 +1,8 @@
 use Prim.Native.Nat.{◌+◌, ◌-◌}
-use mathlib.Core.Path.{◌≡◌, sym, ◌∙◌}
+use mathlib.Core.Path.{sym, ◌∙◌}
 use mathlib.Core.Bool.{true≢false}
-use mathlib.Core.Logic.{⊎_elim}
 use native.Mathlib.Omega.{arith}
-use lib.ListN.{length}
-use borrow.Author.Rules.{rules}
-use Rattle.buffer.specs.Buffer.{network_in}
-use Rattle.radial.specs.Run.{Running, running-start, running-skip, running-return, running-join, running-end}
+use Rattle.radial.specs.Run.{running-start, running-skip, running-return, running-join, running-end}
 use Rattle.radial.proofs.path_returns.Goals as goal
 use Rattle.radial.proofs.path_returns.Goals.{then-both_closed+else-x-y, else-both_closed}
 

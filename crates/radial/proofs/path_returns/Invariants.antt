@@ -1,12 +1,8 @@
 use Prim.Native.Nat.{◌+◌, ◌-◌}
-use mathlib.Core.Path.{◌≡◌, sym, ◌∙◌}
-use mathlib.Core.Bool.{true≢false}
-use mathlib.Core.Logic.{⊎_elim}
-use native.Mathlib.Omega.{arith}
+use mathlib.Core.Path.{◌≡◌}
 use lib.ListN.{length}
-use borrow.Author.Rules.{rules}
 use Rattle.buffer.specs.Buffer.{network_in}
-use Rattle.radial.specs.Run.{Running, running-start, running-skip, running-return, running-join, running-end}
+use Rattle.radial.specs.Run.{Running}
 use Rattle.radial.proofs.path_returns.Given as goal
 
 -- The labels tell what the lines before this one connect.

@@ -1,10 +1,8 @@
-use Prim.Native.Nat.{◌-◌, ◌≤◌}
-use mathlib.Core.Path.{◌≡◌, refl, ◌∙◌}
-use mathlib.Core.Logic.{⊎_elim}
+use Prim.Native.Nat.{◌-◌}
+use mathlib.Core.Path.{refl, ◌∙◌}
 use native.Mathlib.Omega.{arith}
-use lib.ListN.{length, length-set}
-use borrow.Author.Rules.{rules}
-use Rattle.radial.specs.Stations.{Renamed, renamed-stay, renamed-set}
+use lib.ListN.{length-set}
+use Rattle.radial.specs.Stations.{renamed-stay, renamed-set}
 use Rattle.radial.proofs.rename.Goals as goal
 use Rattle.radial.proofs.rename.Goals.{then-labels-i, else-labels-i}
 

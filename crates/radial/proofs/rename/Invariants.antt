@@ -1,10 +1,7 @@
 use Prim.Native.Nat.{◌-◌, ◌≤◌}
-use mathlib.Core.Path.{◌≡◌, refl, ◌∙◌}
-use mathlib.Core.Logic.{⊎_elim}
-use native.Mathlib.Omega.{arith}
-use lib.ListN.{length, length-set}
-use borrow.Author.Rules.{rules}
-use Rattle.radial.specs.Stations.{Renamed, renamed-stay, renamed-set}
+use mathlib.Core.Path.{◌≡◌}
+use lib.ListN.{length}
+use Rattle.radial.specs.Stations.{Renamed}
 use Rattle.radial.proofs.rename.Given as goal
 
 -- Before i the label x is y, and from i on all is as it was.

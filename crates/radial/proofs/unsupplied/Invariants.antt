@@ -1,14 +1,10 @@
 use Prim.Native.Nat.{◌+◌, ◌-◌}
 use mathlib.Core.Path.{◌≡◌}
 use mathlib.Core.Bool.{not}
-use native.Mathlib.Omega.{arith}
 use lib.ListN.{length}
-use borrow.Author.Rules.{rules}
-use Rattle.model.specs.Paths.{station_numbers}
 use Rattle.model.specs.Rules.{is_supplied}
 use Rattle.buffer.specs.Buffer.{network_in}
-use Rattle.end_rules.specs.First.{Passed, passed_start, passed-next, passed_here, passed-end}
-use Rattle.radial.specs.Stations.{label-there, marked-supplied, unmarked-unsupplied}
+use Rattle.end_rules.specs.First.{Passed}
 use Rattle.radial.proofs.unsupplied.Given as goal
 
 -- Each station before this one has supply.

@@ -4,7 +4,6 @@ use lib.ListN.{get_or}
 use Rattle.model.specs.declared.Range.{Range}
 use Rattle.model.specs.Ranges.{rows, largest_of, ◌to◌}
 use Rattle.ranges.proofs.Rows.{from-least, below-least}
-use borrow.Author.Rules.{rules}
 use Rattle.ranges.proofs.in_range.Goals as goal
 
 pub returns-then-range-value : goal.returns-then-range-value

@@ -1,7 +1,6 @@
 use mathlib.Core.Path.{ap, ◌∙◌}
 use Rattle.model.specs.declared.Range.{Range}
 use Rattle.model.specs.Ranges.{largest_of}
-use borrow.Author.Rules.{rules}
 use Rattle.ranges.proofs.largest.Goals as goal
 
 pub returns : goal.returns

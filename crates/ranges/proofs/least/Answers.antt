@@ -1,6 +1,5 @@
 use mathlib.Core.Path.{ap}
 use Rattle.model.specs.declared.Range.{Range}
-use borrow.Author.Rules.{rules}
 use Rattle.ranges.proofs.least.Goals as goal
 
 pub returns : goal.returns

@@ -1,6 +1,5 @@
 use Rattle.model.specs.Network.{value, comes_after, place_of}
 use Rattle.reader.proofs.Placed.{line_before, same_line, line-behind}
-use borrow.Author.Rules.{rules}
 use Rattle.reader.proofs.comes_after.Goals as goal
 
 pub returns-then-before-place : goal.returns-then-before-place

@@ -1,7 +1,6 @@
 use mathlib.Core.Path.{◌∙◌}
 use Rattle.reader.specs.Says.{read_says}
 use Rattle.reader.proofs.Whole.{too_long, not-too-long}
-use borrow.Author.Rules.{rules}
 use Rattle.reader.proofs.read.Goals as goal
 
 pub returns-then-too_long : goal.returns-then-too_long

@@ -6,7 +6,6 @@ use Rattle.model.specs.Ranges.{rows, row_n}
 use Rattle.buffer.specs.Buffer.{head_width}
 use Rattle.records.specs.Steps.{step_says}
 use Rattle.reader.proofs.Whole.{forward-within}
-use borrow.Author.Rules.{rules}
 use Rattle.reader.proofs.read_head.Goals as goal
 
 pub read_record-requires : goal.read_record-requires

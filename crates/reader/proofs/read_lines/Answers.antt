@@ -7,7 +7,6 @@ use Rattle.buffer.specs.Buffer.{lines_at, places_at, line_width}
 use Rattle.records.specs.Steps.{step_says}
 use Rattle.records.proofs.Buffers.{part-records}
 use Rattle.reader.proofs.Whole.{part-long}
-use borrow.Author.Rules.{rules}
 use Rattle.reader.proofs.read_lines.Goals as goal
 
 pub read_records-requires : goal.read_records-requires
@@ -19,6 +18,10 @@ pub returns : goal.returns
 unfolding rows row_l
 returns c =
     let a = c.args in
-    let d = c.read_records.new.numbers in record { answer = ap (step_says a.file.now c.read_records.result)
+    let d = c.read_records.new.numbers in record {
+      answer = ap (step_says a.file.now c.read_records.result)
           (part-records line_width a.lines lines_at (places_at - lines_at) a.net.now d (omega arith) (omega (arith, c.read_records.auto.numbers, part-long lines_at (places_at - lines_at) a.net.now (omega arith))))
-          ∙ c.read_records.ensures.answer; position = c.read_records.ensures.position; before = take_put lines_at (places_at - lines_at) a.net.now d (omega arith) }
+          ∙ c.read_records.ensures.answer;
+      position = c.read_records.ensures.position;
+      before = take_put lines_at (places_at - lines_at) a.net.now d (omega arith);
+    }

@@ -1,9 +1,6 @@
 use mathlib.Core.Path.{◌≡◌, refl, sym, subst, ◌∙◌}
-use borrow.Author.Tests.{not-true, not-false}
-use Prim.Native.Nat.{◌-◌, ◌≤◌}
+use Prim.Native.Nat.{◌-◌}
 use native.Mathlib.Omega.{arith}
-use lib.ListN.{length, drop}
-use Rattle.model.specs.Format.{records_of}
 use Rattle.model.specs.Ranges.{rows, row_p}
 use Rattle.model.specs.Network.{place_of}
 use Rattle.buffer.specs.Buffer.{network_in}
@@ -13,10 +10,8 @@ use Rattle.network_changes.specs.Sizes.{more-fits}
 use Rattle.buffer.specs.Parts.{stations-counted, lines-counted}
 use Rattle.records.proofs.Steps.{says-next, says-stopped, next-forward}
 use Rattle.reader.specs.Says.{read_says}
-use Rattle.reader.specs.Places.{with_places_of}
 use Rattle.reader.proofs.Placed.{not-65th}
-use Rattle.reader.proofs.InBuffer.{read_on, at-start, others-left, fits-start, kept, stopped, in_bounds, misplaced, next, ended}
-use borrow.Author.Rules.{rules}
+use Rattle.reader.proofs.InBuffer.{at-start, others-left, fits-start, kept, stopped, in_bounds, misplaced, next, ended}
 use Rattle.reader.proofs.read_places.Goals as goal
 
 pub loop-at-init : goal.loop-at-init

@@ -7,7 +7,6 @@ use Rattle.buffer.specs.Buffer.{stations_at, lines_at, station_width}
 use Rattle.records.specs.Steps.{step_says}
 use Rattle.records.proofs.Buffers.{part-records}
 use Rattle.reader.proofs.Whole.{part-long}
-use borrow.Author.Rules.{rules}
 use Rattle.reader.proofs.read_stations.Goals as goal
 
 pub read_records-requires : goal.read_records-requires
@@ -19,6 +18,10 @@ pub returns : goal.returns
 unfolding rows row_s
 returns c =
     let a = c.args in
-    let d = c.read_records.new.numbers in record { answer = ap (step_says a.file.now c.read_records.result)
+    let d = c.read_records.new.numbers in record {
+      answer = ap (step_says a.file.now c.read_records.result)
           (part-records station_width a.stations stations_at (lines_at - stations_at) a.net.now d (omega arith) (omega (arith, c.read_records.auto.numbers, part-long stations_at (lines_at - stations_at) a.net.now (omega arith))))
-          ∙ c.read_records.ensures.answer; position = c.read_records.ensures.position; before = take_put stations_at (lines_at - stations_at) a.net.now d (omega arith) }
+          ∙ c.read_records.ensures.answer;
+      position = c.read_records.ensures.position;
+      before = take_put stations_at (lines_at - stations_at) a.net.now d (omega arith);
+    }

@@ -1,11 +1,9 @@
-use borrow.Author.Tests.{not-true, not-false}
 use mathlib.Core.Path.{sym, ◌∙◌}
 use native.Mathlib.Omega.{arith}
 use Rattle.model.specs.Network.{place_of}
 use Rattle.model.specs.Paths.{state}
 use Rattle.buffer.specs.Buffer.{network_in}
 use Rattle.reader.proofs.Placed.{too_many, out_of_order, by_state}
-use borrow.Author.Rules.{rules}
 use Rattle.reader.proofs.well_placed.Goals as goal
 
 pub returns-then-n-ge64 : goal.returns-then-n-ge64

@@ -1,11 +1,8 @@
-use borrow.Author.Tests.{not-true, not-false}
-use borrow.Author.Rules.{rules}
-use mathlib.Core.Path.{◌≡◌, refl, sym, ◌∙◌}
+use mathlib.Core.Path.{refl, sym, ◌∙◌}
 use mathlib.Core.List.{[]}
-use Prim.Native.Nat.{◌-◌, ◌≤◌}
 use native.Mathlib.Omega.{arith}
-use lib.ListN.{length, get_or, drop}
-use Rattle.model.specs.Ranges.{rows, all_in_range}
+use lib.ListN.{get_or}
+use Rattle.model.specs.Ranges.{rows}
 use Rattle.model.specs.Network.{value}
 use Rattle.records.proofs.Ranged.{row-short, out_of_range, within-range, no_more}
 use Rattle.records.proofs.in_ranges.Goals as goal

@@ -1,13 +1,9 @@
-use borrow.Author.Tests.{not-true, not-false}
-use borrow.Author.Rules.{rules}
-use mathlib.Core.Path.{◌≡◌, refl, sym, ◌∙◌}
+use mathlib.Core.Path.{◌≡◌}
 use mathlib.Core.List.{[]}
 use Prim.Native.Nat.{◌-◌, ◌≤◌}
-use native.Mathlib.Omega.{arith}
 use lib.ListN.{length, get_or, drop}
 use Rattle.model.specs.Ranges.{rows, all_in_range}
 use Rattle.model.specs.Network.{value}
-use Rattle.records.proofs.Ranged.{row-short, out_of_range, within-range, no_more}
 use Rattle.records.proofs.in_ranges.Given as goal
 
 abbrev pub invariant-loop-field : goal.invariant-loop-field

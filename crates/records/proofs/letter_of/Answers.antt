@@ -1,6 +1,5 @@
 use mathlib.Core.Path.{refl}
 use Rattle.records.specs.Kinds.{letters}
-use borrow.Author.Rules.{rules}
 use Rattle.records.proofs.letter_of.Goals as goal
 
 pub returns : goal.returns

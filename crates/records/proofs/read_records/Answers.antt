@@ -1,6 +1,5 @@
 use borrow.Rule.Slice.PartMut.{put_mid, same_len_mid}
 use Rattle.records.proofs.Steps.{says-next, says-stopped, next-forward}
-use borrow.Author.Rules.{rules}
 use mathlib.Core.Path.{◌≡◌, refl, sym, ap, ap₂, ◌∙◌}
 use mathlib.Core.List.{List, []}
 use Prim.Native.Nat.{ℕ, ◌+◌, ◌*◌, ◌-◌, ◌≤◌}
@@ -55,9 +54,12 @@ unfolding step_says within
 returns-in-Stopped c =
     let a = c.args in
     let l = c.loop-k in
-    let r = c.read_record-step in record { answer = sym (stopped a.stations a.lines (kind_at a.kind) a.file.now a.first a.count l.k l.at (records_in (length (get_or rows a.kind [])) l.k l.numbers) (omega arith) _ _
+    let r = c.read_record-step in record {
+      answer = sym (stopped a.stations a.lines (kind_at a.kind) a.file.now a.first a.count l.k l.at (records_in (length (get_or rows a.kind [])) l.k l.numbers) (omega arith) _ _
           (says-stopped a.file.now r.result r.new.numbers _ r.ensures.answer _ _ c.in-Stopped.is))
-          ∙ l.invariant.5; position = tt }
+          ∙ l.invariant.5;
+      position = tt;
+    }
 
 pub loop-k-preserved : goal.loop-k-preserved
 loop-k-preserved c =
@@ -86,6 +88,9 @@ pub returns : goal.returns
 unfolding step_says within
 returns c =
     let a = c.args in
-    let l = c.loop-k in record { answer = ap (λ (n : ℕ). given (records_in (length (get_or rows a.kind [])) n l.numbers, records_of (drop l.at a.file.now))) {x = a.count} {y = l.k} (omega arith)
+    let l = c.loop-k in record {
+      answer = ap (λ (n : ℕ). given (records_in (length (get_or rows a.kind [])) n l.numbers, records_of (drop l.at a.file.now))) {x = a.count} {y = l.k} (omega arith)
           ∙ sym (all_read a.stations a.lines (kind_at a.kind) a.file.now a.first a.count l.k l.at (records_in (length (get_or rows a.kind [])) l.k l.numbers) (omega arith))
-          ∙ l.invariant.5; position = omega arith }
+          ∙ l.invariant.5;
+      position = omega arith;
+    }

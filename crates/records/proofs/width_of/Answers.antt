@@ -1,6 +1,5 @@
 use native.Mathlib.Omega.{arith}
 use Rattle.records.proofs.Ranged.{row-width, row-short}
-use borrow.Author.Rules.{rules}
 use Rattle.records.proofs.width_of.Goals as goal
 
 pub returns : goal.returns

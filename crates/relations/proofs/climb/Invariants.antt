@@ -1,13 +1,9 @@
-use Prim.Native.Nat.{◌+◌, ◌*◌, ◌<◌}
-use mathlib.Core.Path.{sym, subst}
-use native.Mathlib.Omega.{arith}
-use lib.ListN.{length, set}
+use lib.ListN.{length}
 use Rattle.savings.specs.Breakers.{end_at}
 use Rattle.buffer.specs.Buffer.{network_in}
 use Rattle.sets.specs.Onward.{onward}
-use Rattle.relations.specs.Climb.{is_above, place_above}
-use Rattle.relations.proofs.Climbing.{Climbed, level, level-less, climb-start, climb-next, climb-end}
-use Rattle.relations.proofs.Above.{climb-places}
+use Rattle.relations.specs.Climb.{is_above}
+use Rattle.relations.proofs.Climbing.{Climbed, level}
 use Rattle.relations.proofs.climb.Given as goal
 
 abbrev pub invariant-loop-above : goal.invariant-loop-above

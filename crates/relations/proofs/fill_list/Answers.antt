@@ -1,12 +1,9 @@
-use Prim.Native.Nat.{◌+◌, ◌*◌, ◌-◌, ◌≤◌, ◌<◌}
-use mathlib.Core.Path.{◌≡◌, refl, ◌∙◌}
-use mathlib.Core.Logic.{⊎_elim}
+use Prim.Native.Nat.{◌-◌}
+use mathlib.Core.Path.{refl, ◌∙◌}
 use native.Mathlib.Omega.{arith}
-use lib.ListN.{length, length-set}
+use lib.ListN.{length-set}
 use lib.Seq.{get_or-set_other}
-use Rattle.relations.specs.Lists.{Listed, SameUpTo}
 use Rattle.relations.proofs.Listing.{listed-none, listed-past, listed_more, listed-closed}
-use borrow.Author.Rules.{rules}
 use Rattle.relations.proofs.fill_list.Goals as goal
 use Rattle.relations.proofs.fill_list.Goals.{then-relations-row-ne0, else-relations-row-ne0}
 

@@ -1,12 +1,7 @@
 use Prim.Native.Nat.{◌+◌, ◌*◌, ◌-◌, ◌≤◌, ◌<◌}
-use mathlib.Core.Path.{◌≡◌, refl, ◌∙◌}
-use mathlib.Core.Logic.{⊎_elim}
-use native.Mathlib.Omega.{arith}
-use lib.ListN.{length, length-set}
-use lib.Seq.{get_or-set_other}
+use mathlib.Core.Path.{◌≡◌}
+use lib.ListN.{length}
 use Rattle.relations.specs.Lists.{Listed, SameUpTo}
-use Rattle.relations.proofs.Listing.{listed-none, listed-past, listed_more, listed-closed}
-use borrow.Author.Rules.{rules}
 use Rattle.relations.proofs.fill_list.Given as goal
 
 abbrev pub invariant-loop-p : goal.invariant-loop-p

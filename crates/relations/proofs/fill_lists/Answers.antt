@@ -1,9 +1,7 @@
-use Prim.Native.Nat.{◌+◌, ◌-◌, ◌≤◌}
-use mathlib.Core.Path.{◌≡◌, refl}
+use Prim.Native.Nat.{◌-◌}
+use mathlib.Core.Path.{refl}
 use native.Mathlib.Omega.{arith}
-use lib.ListN.{length}
-use Rattle.relations.proofs.Listing.{Rows, rows_more}
-use borrow.Author.Rules.{rules}
+use Rattle.relations.proofs.Listing.{rows_more}
 use Rattle.relations.proofs.fill_lists.Goals as goal
 
 pub loop-q-init : goal.loop-q-init

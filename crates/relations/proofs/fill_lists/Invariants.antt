@@ -1,9 +1,7 @@
 use Prim.Native.Nat.{◌+◌, ◌-◌, ◌≤◌}
-use mathlib.Core.Path.{◌≡◌, refl}
-use native.Mathlib.Omega.{arith}
+use mathlib.Core.Path.{◌≡◌}
 use lib.ListN.{length}
-use Rattle.relations.proofs.Listing.{Rows, rows_more}
-use borrow.Author.Rules.{rules}
+use Rattle.relations.proofs.Listing.{Rows}
 use Rattle.relations.proofs.fill_lists.Given as goal
 
 abbrev pub invariant-loop-q : goal.invariant-loop-q

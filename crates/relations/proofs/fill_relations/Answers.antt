@@ -1,13 +1,12 @@
-use borrow.Author.Rules.{rules}
-use Prim.Native.Nat.{ℕ, ◌+◌, ◌-◌, ◌≤◌}
-use mathlib.Core.Path.{◌≡◌, ◌∙◌}
+use Prim.Native.Nat.{◌-◌}
+use mathlib.Core.Path.{◌∙◌}
 use native.Mathlib.Omega.{arith}
-use lib.ListN.{length, get_or}
+use lib.ListN.{length}
 use Rattle.savings.specs.Breakers.{end_at}
 use Rattle.buffer.specs.Buffer.{network_in}
 use Rattle.sets.specs.Onward.{onward}
 use Rattle.relations.specs.Climb.{is_above, place_above}
-use Rattle.relations.proofs.Climbing.{Related, related-start, related-next, related-all}
+use Rattle.relations.proofs.Climbing.{related-start, related-next, related-all}
 use Rattle.relations.proofs.Above.{climb-places, relations-all}
 use Rattle.relations.proofs.fill_relations.Goals as goal
 

@@ -1,7 +1,6 @@
 use native.Mathlib.Omega.{arith}
 use Rattle.buffer.specs.Buffer.{network_in}
 use Rattle.relations.proofs.Above.{place-line}
-use borrow.Author.Rules.{rules}
 use Rattle.relations.proofs.line_of.Goals as goal
 
 pub returns : goal.returns

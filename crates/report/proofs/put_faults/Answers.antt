@@ -1,13 +1,10 @@
 use borrow.Author.Rules.{rules}
-use Prim.Native.Nat.{◌-◌, ◌*◌, ◌≤◌}
-use mathlib.Core.Path.{◌≡◌}
+use Prim.Native.Nat.{◌-◌}
 use native.Mathlib.Omega.{arith}
-use lib.ListN.{length, length-take, length-drop}
-use Rattle.model.specs.Paths.{line_numbers}
-use Rattle.model.specs.Text.{line_f}
+use lib.ListN.{length-take, length-drop}
 use Rattle.theory.specs.Sizes.{read-sized}
 use Rattle.buffer.specs.Buffer.{network_in}
-use Rattle.text.proofs.Listing.{Listed, listed-none, listed_more, listed-all, lines-length, line-is}
+use Rattle.text.proofs.Listing.{listed-none, listed_more, listed-all, lines-length, line-is}
 use Rattle.report.proofs.put_faults.Goals as goal
 
 pub loop-i-init : goal.loop-i-init

@@ -1,13 +1,10 @@
-use borrow.Author.Rules.{rules}
 use Prim.Native.Nat.{◌-◌, ◌*◌, ◌≤◌}
 use mathlib.Core.Path.{◌≡◌}
-use native.Mathlib.Omega.{arith}
-use lib.ListN.{length, length-take, length-drop}
+use lib.ListN.{length}
 use Rattle.model.specs.Paths.{line_numbers}
 use Rattle.model.specs.Text.{line_f}
-use Rattle.theory.specs.Sizes.{read-sized}
 use Rattle.buffer.specs.Buffer.{network_in}
-use Rattle.text.proofs.Listing.{Listed, listed-none, listed_more, listed-all, lines-length, line-is}
+use Rattle.text.proofs.Listing.{Listed}
 use Rattle.report.proofs.put_faults.Given as goal
 
 abbrev pub invariant-loop-i : goal.invariant-loop-i

@@ -2,7 +2,6 @@ use native.Mathlib.Omega.{arith}
 use Rattle.buffer.specs.Buffer.{network_in}
 use Rattle.text.proofs.Listing.{same_text}
 use Rattle.report.proofs.Lines.{line_b-is}
-use borrow.Author.Rules.{rules}
 use Rattle.report.proofs.put_member.Goals as goal
 
 pub returns : goal.returns

@@ -1,12 +1,9 @@
-use borrow.Author.Rules.{rules}
-use Prim.Native.Nat.{◌-◌, ◌*◌, ◌≤◌}
+use Prim.Native.Nat.{◌-◌}
 use mathlib.Core.Path.{sym}
 use native.Mathlib.Omega.{arith}
-use lib.ListN.{take, length-take, length-drop}
+use lib.ListN.{length-take, length-drop}
 use lib.Seq.{length-take-le, get_or-take}
-use Rattle.model.specs.Text.{line_b}
-use Rattle.buffer.specs.Buffer.{network_in}
-use Rattle.text.proofs.Listing.{Listed, listed-none, listed_more, listed-all}
+use Rattle.text.proofs.Listing.{listed-none, listed_more, listed-all}
 use Rattle.report.proofs.put_members.Goals as goal
 
 pub loop-i-init : goal.loop-i-init

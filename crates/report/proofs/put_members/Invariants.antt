@@ -1,12 +1,8 @@
-use borrow.Author.Rules.{rules}
 use Prim.Native.Nat.{◌-◌, ◌*◌, ◌≤◌}
-use mathlib.Core.Path.{sym}
-use native.Mathlib.Omega.{arith}
-use lib.ListN.{take, length-take, length-drop}
-use lib.Seq.{length-take-le, get_or-take}
+use lib.ListN.{take}
 use Rattle.model.specs.Text.{line_b}
 use Rattle.buffer.specs.Buffer.{network_in}
-use Rattle.text.proofs.Listing.{Listed, listed-none, listed_more, listed-all}
+use Rattle.text.proofs.Listing.{Listed}
 use Rattle.report.proofs.put_members.Given as goal
 
 abbrev pub invariant-loop-i : goal.invariant-loop-i

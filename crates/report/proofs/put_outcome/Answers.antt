@@ -1,7 +1,6 @@
 use native.Mathlib.Omega.{arith}
 use Rattle.text.proofs.Listing.{same_text}
 use Rattle.report.proofs.Lines.{outcome-is}
-use borrow.Author.Rules.{rules}
 use Rattle.report.proofs.put_outcome.Goals as goal
 
 pub returns : goal.returns

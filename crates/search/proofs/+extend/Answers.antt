@@ -1,13 +1,8 @@
-use Prim.Native.Nat.{ℕ, ◌+◌, ◌-◌, ◌<◌}
-use mathlib.Core.Path.{◌≡◌}
+use Prim.Native.Nat.{ℕ, ◌+◌, ◌-◌}
 use mathlib.Core.Bool.{true}
-use mathlib.Core.Logic.{⊎_elim}
-use mathlib.Core.List.{[], ◌∷◌, ◌++◌}
 use native.Mathlib.Omega.{arith}
-use lib.ListN.{length, take}
-use Rattle.model.specs.Sets.{allowed}
 use Rattle.buffer.specs.Buffer.{network_in}
-use Rattle.search.specs.Walking.{found_in, Promising}
+use Rattle.search.specs.Walking.{found_in}
 use Rattle.search.proofs.Extending.{few, saves, saves-next, places-few, Going, going-first, low, stopped-same, left-few, left-row, stopped-undone, seeking, going-sought, trying, some, room, set⁺-long, set⁺-is, on-barren, entering, extending, on-extended}
 use Rattle.search.proofs.+extend.Goals as goal
 use Rattle.search.proofs.+extend.Goals.{then-goes_deeper, else-goes_deeper}

@@ -1,7 +1,6 @@
 use native.Mathlib.Omega.{arith}
 use Rattle.buffer.specs.Buffer.{network_in}
 use Rattle.marks.proofs.Marking.{place-fits}
-use borrow.Author.Rules.{rules}
 use Rattle.search.proofs.cost_with.Goals as goal
 
 pub overflow_add-result : goal.overflow_add-result

@@ -7,7 +7,6 @@ use borrow.Author.Tests.{ltb-true, ltb-false}
 use Rattle.buffer.specs.Buffer.{network_in}
 use Rattle.theory.specs.Sizes.{read-sized, total_size, largest_size}
 use Rattle.bounds.specs.Bounds.{places_from}
-use borrow.Author.Rules.{rules}
 use Rattle.search.proofs.goes_on.Goals as goal
 
 pub returns-then-left-eq0 : goal.returns-then-left-eq0

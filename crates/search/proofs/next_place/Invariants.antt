@@ -1,9 +1,7 @@
 use Prim.Native.Nat.{◌+◌, ◌-◌}
-use mathlib.Core.Path.{sym, ◌∙◌}
-use native.Mathlib.Omega.{arith}
 use lib.ListN.{length, take}
 use Rattle.buffer.specs.Buffer.{network_in}
-use Rattle.search.proofs.Seeking.{few, saves, Passed, passed_none, positive, trying, passed-one, sought, sought-none}
+use Rattle.search.proofs.Seeking.{Passed}
 use Rattle.search.proofs.next_place.Given as goal
 
 abbrev pub invariant-loop-current : goal.invariant-loop-current

@@ -6,7 +6,6 @@ use Rattle.model.specs.Outage.{total}
 use Rattle.buffer.specs.Buffer.{network_in}
 use Rattle.lists.proofs.Writing.{written-first, written-long}
 use Rattle.search.proofs.Visiting.{visit-spent, visit-better, visit-other}
-use borrow.Author.Rules.{rules}
 use Rattle.search.proofs.visit.Goals as goal
 
 pub returns-then-progress-visits : goal.returns-then-progress-visits

@@ -4,7 +4,6 @@ use native.Mathlib.Omega.{arith}
 use Rattle.buffer.specs.Buffer.{network_in}
 use Rattle.search.specs.Walking.{found_in, visited, Counted}
 use Rattle.search.proofs.Starting.{saved-none, counted_none, extending-none, search_is}
-use borrow.Author.Rules.{rules}
 use Rattle.search.proofs.walk.Goals as goal
 
 pub visit-first-requires : goal.visit-first-requires

@@ -3,7 +3,6 @@ use mathlib.Core.Bool.{◌&&◌}
 use lib.Dec.{leb}
 use borrow.Author.Tests.{le-leb, lt-leb}
 use Rattle.buffer.specs.Buffer.{network_in}
-use borrow.Author.Rules.{rules}
 use Rattle.search.proofs.within_means.Goals as goal
 
 pub returns-then-cost-money : goal.returns-then-cost-money

@@ -1,11 +1,8 @@
-use Prim.Native.Nat.{◌-◌, ◌*◌, ◌≤◌}
 use native.Mathlib.Omega.{arith}
 use lib.ListN.{length-take, length-drop}
-use Rattle.model.specs.Lists.{numbers}
 use Rattle.theory.specs.Sizes.{numbers-length}
-use Rattle.text.proofs.Listing.{Listed, listed-none, listed_more, listed-all, number_is}
-use Rattle.segment_rows.specs.Rows.{entry_row, entry_rows}
-use borrow.Author.Rules.{rules}
+use Rattle.text.proofs.Listing.{listed-none, listed_more, listed-all, number_is}
+use Rattle.segment_rows.specs.Rows.{entry_rows}
 use Rattle.segment_rows.proofs.put_entries.Goals as goal
 
 pub loop-i-init : goal.loop-i-init

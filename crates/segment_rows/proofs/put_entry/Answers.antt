@@ -6,7 +6,6 @@ use lib.ListN.{take, drop}
 use Rattle.model.specs.Text.{printed_line}
 use Rattle.text.proofs.Listing.{same_text}
 use Rattle.segment_rows.specs.Rows.{entry_row}
-use borrow.Author.Rules.{rules}
 use Rattle.segment_rows.proofs.put_entry.Goals as goal
 
 pub returns : goal.returns

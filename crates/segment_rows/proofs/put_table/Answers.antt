@@ -4,7 +4,6 @@ use Rattle.model.specs.Text.{printed_line}
 use Rattle.text.proofs.Listing.{same_text, behind}
 use Rattle.segment_rows.specs.Rows.{entry_rows}
 use Rattle.segment_rows.proofs.Entries.{table_is}
-use borrow.Author.Rules.{rules}
 use Rattle.segment_rows.proofs.put_table.Goals as goal
 
 pub overflow_add-result : goal.overflow_add-result

@@ -4,7 +4,6 @@ use native.Mathlib.Omega.{arith}
 use Rattle.buffer.specs.Buffer.{network_in}
 use Rattle.text.proofs.Listing.{same_text}
 use Rattle.segments.proofs.Entry.{entry-none, amount-fits, entry-is}
-use borrow.Author.Rules.{rules}
 use Rattle.segments.proofs.put_end.Goals as goal
 
 pub put_entry-requires : goal.put_entry-requires

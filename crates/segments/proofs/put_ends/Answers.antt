@@ -3,7 +3,6 @@ use Rattle.model.specs.Paths.{end1, end2}
 use Rattle.buffer.specs.Buffer.{network_in}
 use Rattle.text.proofs.Listing.{behind}
 use Rattle.segments.specs.Entries.{entry_of}
-use borrow.Author.Rules.{rules}
 use Rattle.segments.proofs.put_ends.Goals as goal
 
 pub returns : goal.returns

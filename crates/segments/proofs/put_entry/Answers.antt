@@ -1,9 +1,7 @@
 use mathlib.Core.Path.{◌∙◌}
 use mathlib.Core.List.{◌∷◌}
-use native.Mathlib.Omega.{arith}
-use lib.ListN.{drop, length-set}
+use lib.ListN.{drop}
 use Rattle.segments.proofs.Entry.{five}
-use borrow.Author.Rules.{rules}
 use Rattle.segments.proofs.put_entry.Goals as goal
 
 pub returns : goal.returns

@@ -1,6 +1,5 @@
-use borrow.Author.Rules.{rules}
-use Prim.Native.Nat.{◌+◌, ◌-◌, ◌*◌, ◌≤◌}
-use mathlib.Core.Path.{◌≡◌, ap, ◌∙◌}
+use Prim.Native.Nat.{◌-◌}
+use mathlib.Core.Path.{ap, ◌∙◌}
 use native.Mathlib.Omega.{arith}
 use lib.ListN.{length, length-take, length-drop}
 use Rattle.model.specs.Paths.{line_numbers}
@@ -8,7 +7,7 @@ use Rattle.theory.specs.Sizes.{read-sized}
 use Rattle.buffer.specs.Buffer.{network_in}
 use Rattle.tree.proofs.Fitting.{read_fits}
 use Rattle.text.specs.Over.{over}
-use Rattle.text.proofs.Listing.{Listed, listed_at, listed-none, listed_more, listed-all, lines-length, line-is}
+use Rattle.text.proofs.Listing.{listed_at, listed-none, listed_more, listed-all, lines-length, line-is}
 use Rattle.segments.specs.Entries.{entries_of}
 use Rattle.segments.proofs.Table.{table-lines, table-length}
 use Rattle.segments.proofs.put_lines.Goals as goal

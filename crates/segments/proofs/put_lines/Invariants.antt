@@ -1,16 +1,10 @@
-use borrow.Author.Rules.{rules}
 use Prim.Native.Nat.{◌+◌, ◌-◌, ◌*◌, ◌≤◌}
-use mathlib.Core.Path.{◌≡◌, ap, ◌∙◌}
-use native.Mathlib.Omega.{arith}
-use lib.ListN.{length, length-take, length-drop}
+use mathlib.Core.Path.{◌≡◌}
+use lib.ListN.{length}
 use Rattle.model.specs.Paths.{line_numbers}
-use Rattle.theory.specs.Sizes.{read-sized}
 use Rattle.buffer.specs.Buffer.{network_in}
-use Rattle.tree.proofs.Fitting.{read_fits}
-use Rattle.text.specs.Over.{over}
-use Rattle.text.proofs.Listing.{Listed, listed_at, listed-none, listed_more, listed-all, lines-length, line-is}
+use Rattle.text.proofs.Listing.{Listed}
 use Rattle.segments.specs.Entries.{entries_of}
-use Rattle.segments.proofs.Table.{table-lines, table-length}
 use Rattle.segments.proofs.put_lines.Given as goal
 
 abbrev pub invariant-loop-line : goal.invariant-loop-line

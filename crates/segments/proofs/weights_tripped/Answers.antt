@@ -1,8 +1,8 @@
 use borrow.Author.Rules.{rules}
-use Prim.Native.Nat.{◌-◌, ◌≤◌}
-use mathlib.Core.Path.{◌≡◌, subst}
+use Prim.Native.Nat.{◌-◌}
+use mathlib.Core.Path.{subst}
 use native.Mathlib.Omega.{arith}
-use lib.ListN.{length, length-set}
+use lib.ListN.{length-set}
 use Rattle.buffer.specs.Buffer.{network_in}
 use Rattle.tree.proofs.Fitting.{read_fits}
 use Rattle.outage.proofs.Breakers.{trip-is, trip-in}

@@ -1,12 +1,8 @@
-use borrow.Author.Rules.{rules}
 use Prim.Native.Nat.{◌-◌, ◌≤◌}
-use mathlib.Core.Path.{◌≡◌, subst}
-use native.Mathlib.Omega.{arith}
-use lib.ListN.{length, length-set}
+use mathlib.Core.Path.{◌≡◌}
+use lib.ListN.{length}
 use Rattle.buffer.specs.Buffer.{network_in}
-use Rattle.tree.proofs.Fitting.{read_fits}
-use Rattle.outage.proofs.Breakers.{trip-is, trip-in}
-use Rattle.segments.proofs.Weights.{Noted, noted_more, noted-fits, noted-all}
+use Rattle.segments.proofs.Weights.{Noted}
 use Rattle.segments.proofs.weights_tripped.Given as goal
 
 abbrev pub invariant-loop-i : goal.invariant-loop-i

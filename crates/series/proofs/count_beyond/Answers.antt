@@ -2,7 +2,6 @@ use mathlib.Core.Path.{sym, ◌∙◌}
 use native.Mathlib.Omega.{arith}
 use Rattle.paths.proofs.FarEnds.{side-in, far-there}
 use Rattle.series.proofs.InSeries.{count-few, counted-far, counted-line}
-use borrow.Author.Rules.{rules}
 use Rattle.series.proofs.count_beyond.Goals as goal
 
 pub overflow_sub-sides : goal.overflow_sub-sides

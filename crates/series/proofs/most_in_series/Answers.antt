@@ -1,14 +1,10 @@
-use Prim.Native.Nat.{ℕ, ◌+◌, ◌-◌, ◌≤◌, ◌<◌}
-use mathlib.Core.Path.{◌≡◌}
+use Prim.Native.Nat.{◌-◌}
 use native.Mathlib.Omega.{arith}
-use lib.ListN.{length}
 use Rattle.model.specs.Rules.{breakers_on}
 use Rattle.buffer.specs.Buffer.{network_in}
 use Rattle.tree.proofs.Fitting.{read_fits}
 use Rattle.paths.specs.Meets.{far_route}
-use Rattle.series.specs.Series.{most_in_series}
 use Rattle.series.proofs.InSeries.{far_within, none_above, upto-more}
-use borrow.Author.Rules.{rules}
 use Rattle.series.proofs.most_in_series.Goals as goal
 
 pub loop-line-init : goal.loop-line-init

@@ -1,10 +1,9 @@
-use Prim.Native.Nat.{◌+◌, ◌-◌, ◌≤◌}
-use mathlib.Core.Path.{◌≡◌}
+use Prim.Native.Nat.{◌-◌}
 use native.Mathlib.Omega.{arith}
-use lib.ListN.{length, length-set}
+use lib.ListN.{length-set}
 use Rattle.buffer.specs.Buffer.{network_in}
 use Rattle.tree.proofs.Fitting.{read_fits}
-use Rattle.starts.proofs.FirstOutlook.{Filled, filled_more, upstream_code, trip-upstream, place-line}
+use Rattle.starts.proofs.FirstOutlook.{filled_more, upstream_code, trip-upstream, place-line}
 use Rattle.starts.proofs.fill_upstreams.Goals as goal
 
 pub overflow_sub-outlook : goal.overflow_sub-outlook

@@ -1,10 +1,8 @@
 use Prim.Native.Nat.{◌+◌, ◌-◌, ◌≤◌}
 use mathlib.Core.Path.{◌≡◌}
-use native.Mathlib.Omega.{arith}
-use lib.ListN.{length, length-set}
+use lib.ListN.{length}
 use Rattle.buffer.specs.Buffer.{network_in}
-use Rattle.tree.proofs.Fitting.{read_fits}
-use Rattle.starts.proofs.FirstOutlook.{Filled, filled_more, upstream_code, trip-upstream, place-line}
+use Rattle.starts.proofs.FirstOutlook.{Filled, upstream_code}
 use Rattle.starts.proofs.fill_upstreams.Given as goal
 
 abbrev pub invariant-loop-p : goal.invariant-loop-p

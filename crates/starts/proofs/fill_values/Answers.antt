@@ -1,10 +1,8 @@
-use Prim.Native.Nat.{◌+◌, ◌-◌, ◌≤◌}
-use mathlib.Core.Path.{◌≡◌}
+use Prim.Native.Nat.{◌-◌}
 use native.Mathlib.Omega.{arith}
-use lib.ListN.{length, length-set}
-use borrow.Author.Rules.{rules}
+use lib.ListN.{length-set}
 use Rattle.buffer.specs.Buffer.{network_in}
-use Rattle.starts.proofs.FirstOutlook.{Valued, valued-more, valued-all}
+use Rattle.starts.proofs.FirstOutlook.{valued-more, valued-all}
 use Rattle.starts.proofs.fill_values.Goals as goal
 
 pub bounds-outlook-p-in-loop-p : goal.bounds-outlook-p-in-loop-p

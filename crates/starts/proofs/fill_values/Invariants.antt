@@ -1,10 +1,8 @@
 use Prim.Native.Nat.{◌+◌, ◌-◌, ◌≤◌}
 use mathlib.Core.Path.{◌≡◌}
-use native.Mathlib.Omega.{arith}
-use lib.ListN.{length, length-set}
-use borrow.Author.Rules.{rules}
+use lib.ListN.{length}
 use Rattle.buffer.specs.Buffer.{network_in}
-use Rattle.starts.proofs.FirstOutlook.{Valued, valued-more, valued-all}
+use Rattle.starts.proofs.FirstOutlook.{Valued}
 use Rattle.starts.proofs.fill_values.Given as goal
 
 abbrev pub invariant-loop-p : goal.invariant-loop-p

@@ -1,10 +1,10 @@
-use Prim.Native.Nat.{◌+◌, ◌-◌, ◌≤◌}
-use mathlib.Core.Path.{◌≡◌, refl}
+use Prim.Native.Nat.{◌-◌}
+use mathlib.Core.Path.{refl}
 use native.Mathlib.Omega.{arith}
-use lib.ListN.{length, get_or, length-set}
+use lib.ListN.{get_or, length-set}
 use Rattle.buffer.specs.Buffer.{network_in}
 use Rattle.tree.proofs.Fitting.{read_fits}
-use Rattle.starts.proofs.Raising.{Raised, raised-none, raised-more, raised_all, first-few}
+use Rattle.starts.proofs.Raising.{raised-none, raised-more, raised_all, first-few}
 use Rattle.starts.proofs.own_in_series.Goals as goal
 
 pub loop-line-init : goal.loop-line-init

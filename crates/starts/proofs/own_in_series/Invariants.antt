@@ -1,10 +1,8 @@
 use Prim.Native.Nat.{◌+◌, ◌-◌, ◌≤◌}
-use mathlib.Core.Path.{◌≡◌, refl}
-use native.Mathlib.Omega.{arith}
-use lib.ListN.{length, get_or, length-set}
+use mathlib.Core.Path.{◌≡◌}
+use lib.ListN.{length}
 use Rattle.buffer.specs.Buffer.{network_in}
-use Rattle.tree.proofs.Fitting.{read_fits}
-use Rattle.starts.proofs.Raising.{Raised, raised-none, raised-more, raised_all, first-few}
+use Rattle.starts.proofs.Raising.{Raised}
 use Rattle.starts.proofs.own_in_series.Given as goal
 
 abbrev pub invariant-loop-line : goal.invariant-loop-line

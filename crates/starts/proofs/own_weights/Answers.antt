@@ -1,11 +1,11 @@
-use Prim.Native.Nat.{◌+◌, ◌-◌, ◌≤◌}
-use mathlib.Core.Path.{◌≡◌, refl, ap, ◌∙◌}
+use Prim.Native.Nat.{◌+◌, ◌-◌}
+use mathlib.Core.Path.{refl, ap, ◌∙◌}
 use native.Mathlib.Omega.{arith}
-use lib.ListN.{length, get_or, length-set}
+use lib.ListN.{get_or, length-set}
 use Rattle.buffer.specs.Buffer.{network_in}
 use Rattle.tree.proofs.Fitting.{read_fits}
 use Rattle.sets.specs.Sets.{load}
-use Rattle.theory.specs.Gathering.{Gathered, gathered_none, gathered-more}
+use Rattle.theory.specs.Gathering.{gathered_none, gathered-more}
 use Rattle.starts.specs.Own.{stop_of}
 use Rattle.starts.proofs.Gathering.{gathered-fits, gathered-all}
 use Rattle.starts.proofs.own_weights.Goals as goal

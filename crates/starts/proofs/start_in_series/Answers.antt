@@ -1,13 +1,9 @@
-use Prim.Native.Nat.{◌+◌, ◌-◌, ◌≤◌, max}
+use Prim.Native.Nat.{◌+◌, ◌-◌, max}
 use mathlib.Core.Path.{◌≡◌, ap}
-use mathlib.Core.Logic.{⊎_elim}
-use mathlib.Core.List.{[]}
 use native.Mathlib.Omega.{arith}
 use lib.ListN.{length, get_or}
 use Rattle.graphs.specs.Sum.{on}
-use Rattle.savings.specs.Breakers.{end_at}
 use Rattle.buffer.specs.Buffer.{network_in}
-use Rattle.sets.specs.Sets.{in_series_at}
 use Rattle.starts.specs.Own.{behind_in}
 use Rattle.starts.proofs.UnderPlaces.{counted, not-counted}
 use Rattle.starts.proofs.Series.{in-series-more, in-series-all}

@@ -1,12 +1,9 @@
-use Prim.Native.Nat.{◌+◌, ◌-◌, ◌≤◌}
+use Prim.Native.Nat.{◌+◌, ◌-◌}
 use mathlib.Core.Path.{◌≡◌, ap}
-use mathlib.Core.Logic.{⊎_elim}
-use mathlib.Core.List.{[]}
 use native.Mathlib.Omega.{arith}
 use lib.ListN.{length, get_or}
 use Rattle.savings.specs.Breakers.{end_at}
 use Rattle.buffer.specs.Buffer.{network_in}
-use Rattle.sets.specs.Sets.{weight_at}
 use Rattle.starts.specs.Own.{under_in}
 use Rattle.starts.proofs.UnderPlaces.{counted, not-counted}
 use Rattle.starts.proofs.Weighing.{share, weighed-more, weighed-all, weight-few}

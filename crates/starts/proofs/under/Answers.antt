@@ -1,4 +1,3 @@
-use native.Mathlib.Omega.{arith}
 use Rattle.starts.proofs.UnderPlaces.{second-part, first_part}
 use Rattle.starts.proofs.under.Goals as goal
 

@@ -1,6 +1,4 @@
-use native.Mathlib.Omega.{arith}
-use mathlib.Core.Logic.{⊎_elim}
-use Rattle.tree.proofs.Following.{codes_left, Following, following-start, following-end, following-less, following-skip, following-add}
+use Rattle.tree.proofs.Following.{codes_left, Following}
 use Rattle.tree.proofs.append.Given as goal
 
 abbrev pub invariant-loop-code : goal.invariant-loop-code

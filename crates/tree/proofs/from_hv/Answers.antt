@@ -1,10 +1,7 @@
-use Prim.Native.Nat.{◌≤◌, ◌-◌}
-use mathlib.Core.Path.{◌≡◌, sym, ◌∙◌}
-use mathlib.Core.Logic.{⊎_elim}
+use Prim.Native.Nat.{◌-◌}
+use mathlib.Core.Path.{sym, ◌∙◌}
 use native.Mathlib.Omega.{arith}
-use lib.ListN.{length}
 use Rattle.buffer.specs.Buffer.{network_in}
-use Rattle.tree.specs.Queue.{Queue, HVUpTo}
 use Rattle.tree.proofs.Queueing.{queue-start, hv-skip, hv-room, hv-add, hv-end}
 use Rattle.tree.proofs.from_hv.Goals as goal
 use Rattle.tree.proofs.from_hv.Goals.{then-is_hv, else-is_hv}

@@ -1,11 +1,8 @@
 use Prim.Native.Nat.{◌≤◌, ◌-◌}
-use mathlib.Core.Path.{◌≡◌, sym, ◌∙◌}
-use mathlib.Core.Logic.{⊎_elim}
-use native.Mathlib.Omega.{arith}
+use mathlib.Core.Path.{◌≡◌}
 use lib.ListN.{length}
 use Rattle.buffer.specs.Buffer.{network_in}
 use Rattle.tree.specs.Queue.{Queue, HVUpTo}
-use Rattle.tree.proofs.Queueing.{queue-start, hv-skip, hv-room, hv-add, hv-end}
 use Rattle.tree.proofs.from_hv.Given as goal
 
 abbrev pub invariant-loop-s : goal.invariant-loop-s

@@ -1,8 +1,7 @@
-use Prim.Native.Nat.{◌*◌, ◌≤◌}
-use mathlib.Core.Path.{◌≡◌, ◌∙◌, sym, subst}
-use mathlib.Core.Logic.{⊎_elim}
+use Prim.Native.Nat.{◌*◌}
+use mathlib.Core.Path.{◌∙◌, sym, subst}
 use native.Mathlib.Omega.{arith}
-use lib.ListN.{length-set, length}
+use lib.ListN.{length-set}
 use borrow.Author.Tests.{not-true, not-false}
 use borrow.Author.Rules.{rules}
 use Rattle.buffer.specs.Buffer.{network_in}

@@ -1,12 +1,8 @@
 use Prim.Native.Nat.{◌*◌, ◌≤◌}
-use mathlib.Core.Path.{◌≡◌, ◌∙◌, sym, subst}
-use mathlib.Core.Logic.{⊎_elim}
-use native.Mathlib.Omega.{arith}
-use lib.ListN.{length-set, length}
-use borrow.Author.Tests.{not-true, not-false}
-use borrow.Author.Rules.{rules}
+use mathlib.Core.Path.{◌≡◌}
+use lib.ListN.{length}
 use Rattle.buffer.specs.Buffer.{network_in}
-use Rattle.tree.proofs.Linking.{LinkedAbove, linked-start, linked-end, linked-open, linked-closed}
+use Rattle.tree.proofs.Linking.{LinkedAbove}
 use Rattle.tree.proofs.link_ends.Given as goal
 
 abbrev pub invariant-loop-code : goal.invariant-loop-code

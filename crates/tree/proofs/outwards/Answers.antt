@@ -1,9 +1,7 @@
-use Prim.Native.Nat.{◌≤◌, ◌-◌}
+use Prim.Native.Nat.{◌-◌}
 use native.Mathlib.Omega.{arith}
-use lib.ListN.{take}
 use borrow.Author.Rules.{rules}
 use Rattle.buffer.specs.Buffer.{network_in}
-use Rattle.tree.specs.Queue.{Queue, Reached}
 use Rattle.tree.proofs.Queueing.{queue-end}
 use Rattle.tree.proofs.outwards.Goals as goal
 
