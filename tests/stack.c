@@ -69,7 +69,7 @@ int main(int count, char **names) {
         for (size_t k = 0; k < sizeof calls / sizeof *calls; k++) {
             printf("%s of %s:", calls[k].name, names[i]);
             fflush(stdout);
-            size_t taken = used(calls[k].run, calls[k].stack + own) - own;
+            size_t whole = used(calls[k].run, calls[k].stack + own), taken = whole > own ? whole - own : 0;
             printf(" %zu of %zu bytes", taken, calls[k].stack);
             need(refusal == 0, "taken, and the file is refused");
             need(taken <= calls[k].stack / 5 * 4, "taken, which leaves too little");

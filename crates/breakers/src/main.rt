@@ -3,9 +3,12 @@
 #![tactic(auto)]
 
 ghost use Rattle.std.specs.Prelude.{◌≡◌, ◌≤◌, length, take};
+ghost use Rattle.model.specs.Calls.{printed};
+ghost use Rattle.model.specs.Commands.{prints};
 
+use commands::Said;
 use input::Input;
-use model::{Command, Request};
+use model::{Command, ReportAnswer, Request};
 use std::env::{Env, FillError};
 use std::fs::File;
 use std::io::{ErrorKind, IsTerminal, Read};
@@ -48,12 +51,45 @@ fn explain(rt: &HostRuntime, command: Command, file: &[u8], number: u64, record:
     let _ = write_text(&rt.stderr(), &text, end);
 }
 
+// Writes what is printed for a file without a command at the start of a buffer: its report, or the line of its refusal.
+fn put_answer(file: &[u8], out: &mut [u8]) -> Said
+    requires { 32768 ≤ length out.old }
+    ensures { (take result.bytes out.new ≡ printed file.now) × (result.bytes ≤ length out.new) }
+{
+    match engine::report(file, out) {
+        ReportAnswer::Written(n) => Said {
+            bytes: n,
+            number: 0,
+            record: 0,
+        },
+        ReportAnswer::Refused { number, record } => {
+            let bytes = text::put_line(out, b'X', &[number, record]);
+            Said {
+                bytes,
+                number,
+                record,
+            }
+        }
+    }
+}
+
+// Writes what a command prints for the first `bytes` bytes of a file's buffer at the start of another buffer.
+fn put_command(command: Command, file: &[u8], bytes: usize, out: &mut [u8]) -> Said
+    requires { (bytes ≤ length file.now) × (164375 ≤ length out.old) }
+    ensures { (take result.bytes out.new ≡ prints command (take bytes file.now)) × (result.bytes ≤ length out.new) }
+{
+    match command {
+        Command::Report => put_answer(&file[..bytes], out),
+        _ => commands::answer(command, file, bytes, out),
+    }
+}
+
 // Prints what a command answers for the first `bytes` bytes of a file's buffer, and says why if it is a refusal.
 fn print_answer(rt: &HostRuntime, command: Command, file: &[u8], bytes: usize)
     requires { bytes ≤ length file.now }
 {
     let mut out = commands::space();
-    let said = commands::answer(command, file, bytes, &mut out);
+    let said = put_command(command, file, bytes, &mut out);
     let n = said.bytes;
     if let Err(e) = rt.write_all(&out[..n]) {
         fail(rt, b"standard output", e);
