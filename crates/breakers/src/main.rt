@@ -111,7 +111,7 @@ fn run<F: Read>(rt: &HostRuntime, command: Command, from: &mut F, name: &[u8]) {
 
 // Prints what a command answers for the file of standard input.
 fn run_input(rt: &HostRuntime, command: Command) {
-    if rt.stdin().is_terminal() {
+    if IsTerminal::is_terminal(&rt.stdin()) {
         let _ = rt.eprintln(
             "breakers: reading a network file from standard input (Ctrl-D ends it; breakers help says more)",
         );
