@@ -15,7 +15,8 @@ pub fn is_line(net: &buffer::Net, line: u64) -> bool
     ensures { (result ≡ true → (1 ≤ line) × (line ≤ length (network_in net.now).lines))
         × (result ≡ false → (line < 1) ⊎ (length (network_in net.now).lines < line)) }
 {
-    1 <= line && line <= buffer::line_count(net) as u64
+    let numbered = 1 <= line;
+    numbered && line <= buffer::line_count(net) as u64
 }
 
 // The answer to what a search found: how many members the best set has, its total, the visits, and whether the search is spent.

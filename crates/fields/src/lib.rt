@@ -61,7 +61,8 @@ pub fn read_number(field: &[u8]) -> Number
     if many_digits(n) {
         return Number::Bad;
     }
-    if 1 < n {
+    let several = 1 < n;
+    if several {
         if field[0] == b'0' {
             return Number::Bad;
         }

@@ -55,7 +55,8 @@ fn station_sum(
     let mut sum = grid::customers(net, station);
     let mut end = chains[station - 1] as usize;
     while end != 0 {
-        if end != came {
+        let onward = end != came;
+        if onward {
             let behind = line_sum(net, chains, nexts, sums, end, levels - 1);
             sum = with_those_behind(sum, behind);
         }

@@ -166,7 +166,8 @@ fn first_from(marks: &[u64; 1537], code: usize, beyond: u64) -> u64
     ensures { result ≡ or_else (get_or marks.now code 0) beyond }
 {
     let own = marks[code];
-    if own == 0 {
+    let unmarked = own == 0;
+    if unmarked {
         return beyond;
     }
     own

@@ -58,7 +58,8 @@ fn weight_of(
         (end_at (network_in net.now) place) }
 {
     let weight = outlook[65 + place];
-    if relations[pending * 65 + place] == 2 && outlook[place] == outlook[pending] {
+    let above = relations[pending * 65 + place] == 2;
+    if above && outlook[place] == outlook[pending] {
         return weight - outlook[65 + pending];
     }
     weight

@@ -58,7 +58,8 @@ pub fn path_returns(net: &buffer::Net, labels: &mut [u64; 512]) -> bool
         if both_closed(net, line) {
             let x = labels[end_rules::station_of(net, line, 1) - 1];
             let y = labels[end_rules::station_of(net, line, 2) - 1];
-            if x == y {
+            let joined = x == y;
+            if joined {
                 return true;
             }
             rename(labels, x, y);

@@ -121,7 +121,10 @@ fn largest_of(largest: Largest, stations: u64, lines: u64, first: u64) -> u64
         Largest::Number(n) => n,
         Largest::Stations => stations,
         Largest::Lines => lines,
-        Largest::NoneAtHv(n) => { if first == 1 { 0 } else { n } }
+        Largest::NoneAtHv(n) => {
+            let at_hv = first == 1;
+            if at_hv { 0 } else { n }
+        }
     }
 }
 

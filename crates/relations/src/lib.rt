@@ -114,7 +114,8 @@ fn fill_list(relations: &[u64; 4225], count: usize, q: usize, lists: &mut [u64; 
     let row = q * 65;
     let mut found = 0;
     for p in q + 1..count + 1 {
-        if relations[row + p] != 0 {
+        let related = relations[row + p] != 0;
+        if related {
             found += 1;
             lists[row + found] = p as u64;
         }

@@ -66,7 +66,8 @@ fn visit(
         };
     }
     let visits = progress.visits + 1;
-    if most.below(saved) {
+    let better = most.below(saved);
+    if better {
         lists::put_numbers(set, size, best);
         return Progress {
             saved,
@@ -183,7 +184,8 @@ fn goes_on(
     ensures { (result ≡ false → Barren (network_in net.now) found.spent found.saved.0 saved.0 from left)
         × (result ≡ true → Promising (network_in net.now) found.spent found.saved.0 saved.0 from left) }
 {
-    if left == 0 {
+    let full = left == 0;
+    if full {
         return false;
     }
     if buffer::place_count(net) < from {

@@ -85,7 +85,8 @@ fn append(
     let mut n = count;
     let mut code = first;
     while code != 0 {
-        if code != came {
+        let onward = code != came;
+        if onward {
             let line = (code + 1) / 2;
             sides[line - 1] = ((code + 1) % 2 + 1) as u64;
             feeders[line - 1] = fed;

@@ -4,7 +4,7 @@ use native.Mathlib.Omega.{arith}
 use Rattle.fields.specs.Fields.{number_says}
 use Rattle.fields.proofs.Digits.{empty, long, zero-first, starts, low, high, more, ended, tens, below-ten-digits}
 use Rattle.fields.proofs.read_number.Goals as goal
-use Rattle.fields.proofs.read_number.Goals.{then-n-gt1+else-field-eq48, else-n-gt1}
+use Rattle.fields.proofs.read_number.Goals.{then-several+else-field-eq48, else-several}
 
 pub returns-then-is_empty : goal.returns-then-is_empty
 unfolding number_says
@@ -26,7 +26,7 @@ loop-i-init c =
       omega (arith, few),
       omega arith,
       omega arith,
-      starts c.args.field.now (λ e. omega (arith, e, some)) (omega (arith, few)) (elim c.if-n-gt1.branch [ then-n-gt1+else-field-eq48 w ↦ inl w.if-field-eq48.false | else-n-gt1 w ↦ inr w.if-n-gt1.false ]),
+      starts c.args.field.now (λ e. omega (arith, e, some)) (omega (arith, few)) (elim c.if-several.branch [ then-several+else-field-eq48 w ↦ inl w.if-field-eq48.false | else-several w ↦ inr w.if-several.false ]),
     )
 
 pub returns-then-d-lt48 : goal.returns-then-d-lt48

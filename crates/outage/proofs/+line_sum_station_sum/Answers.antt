@@ -10,7 +10,7 @@ use Rattle.tree.proofs.Fitting.{read_fits}
 use Rattle.outage.proofs.Calls.{line_code, line-left, far-there, far-station, connected-sum, connected-filled, hanging-sum, hanging-filled}
 use Prim.Native.Nat.{◌+◌, ◌-◌, ◌/◌}
 use Rattle.outage.proofs.+line_sum_station_sum.Goals as goal
-use Rattle.outage.proofs.+line_sum_station_sum.Goals.{line_sum-then-not-hangs, line_sum-else-not-hangs, station_sum-then-end-came, station_sum-else-end-came}
+use Rattle.outage.proofs.+line_sum_station_sum.Goals.{line_sum-then-not-hangs, line_sum-else-not-hangs, station_sum-then-onward, station_sum-else-onward}
 
 pub line_sum-overflow_add-line : goal.line_sum-overflow_add-line
 line_sum-overflow_add-line t c =
@@ -117,7 +117,7 @@ station_sum-line_sum-behind-requires t c =
       omega (arith, c.decreases, station-levels (network_in g.net.now) c.requires.0.read c.requires.0.rules (code_end g.came) g.station g.levels c.requires.1),
       (
         c.requires.0,
-        at-line (network_in g.net.now) c.requires.0.read c.requires.0.rules (code_end g.came) g.station g.levels c.requires.1 (code_end h.end) (part-leaves (network_in g.net.now) g.nexts.now g.came g.station g.levels h.end h.sum g.sums.now h.sums h.invariant.1 c.loop-end-test.true c.if-end-came.true),
+        at-line (network_in g.net.now) c.requires.0.read c.requires.0.rules (code_end g.came) g.station g.levels c.requires.1 (code_end h.end) (part-leaves (network_in g.net.now) g.nexts.now g.came g.station g.levels h.end h.sum g.sums.now h.sums h.invariant.1 c.loop-end-test.true c.if-onward.true),
         h.invariant.0 ∙ c.requires.2,
       ),
     )
@@ -129,7 +129,7 @@ station_sum-with_those_behind-sum-requires t c =
     omega (
       arith,
       c.line_sum-behind.ensures.0,
-      part-fits (network_in g.net.now) g.nexts.now g.came g.station g.levels h.end h.sum g.sums.now h.sums h.invariant.1 c.loop-end-test.true c.if-end-came.true,
+      part-fits (network_in g.net.now) g.nexts.now g.came g.station g.levels h.end h.sum g.sums.now h.sums h.invariant.1 c.loop-end-test.true c.if-onward.true,
       station-size (network_in g.net.now) c.requires.0.read c.requires.0.rules (code_end g.came) g.station g.levels c.requires.1,
     )
 
@@ -144,18 +144,18 @@ station_sum-loop-end-preserved t c =
     let g = c.args in
     let h = c.loop-end in
     let z = c.loop-end-test.true in
-    let j = c.if-end-came in
-    elim c.if-end-came.branch [
-      | station_sum-then-end-came w ↦ (
+    let j = c.if-onward in
+    elim c.if-onward.branch [
+      | station_sum-then-onward w ↦ (
         ap length w.sums-is ∙ w.line_sum-behind.auto.sums ∙ h.invariant.0,
         subst (λ x. Part (network_in g.net.now) g.nexts.now g.came g.station g.levels (get_or g.nexts.now (h.end - 1) 0) j.sum g.sums.now x) (sym w.sums-is)
             (subst (λ x. Part (network_in g.net.now) g.nexts.now g.came g.station g.levels (get_or g.nexts.now (h.end - 1) 0) x g.sums.now w.line_sum-behind.new.sums) (sym (w.sum-is ∙ w.with_those_behind-sum.ensures))
-            (part-more (network_in g.net.now) g.nexts.now g.came g.station g.levels h.end h.sum g.sums.now h.sums h.invariant.1 z w.if-end-came.true w.line_sum-behind.result w.line_sum-behind.new.sums w.line_sum-behind.ensures.0 w.line_sum-behind.ensures.1)),
+            (part-more (network_in g.net.now) g.nexts.now g.came g.station g.levels h.end h.sum g.sums.now h.sums h.invariant.1 z w.if-onward.true w.line_sum-behind.result w.line_sum-behind.new.sums w.line_sum-behind.ensures.0 w.line_sum-behind.ensures.1)),
       )
-      | station_sum-else-end-came w ↦ (
+      | station_sum-else-onward w ↦ (
         ap length w.sums-is ∙ h.invariant.0,
         subst (λ x. Part (network_in g.net.now) g.nexts.now g.came g.station g.levels (get_or g.nexts.now (h.end - 1) 0) j.sum g.sums.now x) (sym w.sums-is)
-            (subst (λ x. Part (network_in g.net.now) g.nexts.now g.came g.station g.levels (get_or g.nexts.now (h.end - 1) 0) x g.sums.now h.sums) (sym w.sum-is) (part-skip (network_in g.net.now) g.nexts.now g.came g.station g.levels h.end h.sum g.sums.now h.sums h.invariant.1 z w.if-end-came.false)),
+            (subst (λ x. Part (network_in g.net.now) g.nexts.now g.came g.station g.levels (get_or g.nexts.now (h.end - 1) 0) x g.sums.now h.sums) (sym w.sum-is) (part-skip (network_in g.net.now) g.nexts.now g.came g.station g.levels h.end h.sum g.sums.now h.sums h.invariant.1 z w.if-onward.false)),
       )
     ]
 

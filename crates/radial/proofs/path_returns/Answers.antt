@@ -4,23 +4,23 @@ use mathlib.Core.Bool.{true≢false}
 use native.Mathlib.Omega.{arith}
 use Rattle.radial.specs.Run.{running-start, running-skip, running-return, running-join, running-end}
 use Rattle.radial.proofs.path_returns.Goals as goal
-use Rattle.radial.proofs.path_returns.Goals.{then-both_closed+else-x-y, else-both_closed}
+use Rattle.radial.proofs.path_returns.Goals.{then-both_closed+else-joined, else-both_closed}
 
 pub loop-line-init : goal.loop-line-init
 loop-line-init c =
     (omega arith, running-start c.requires.read c.number.new.labels c.number.ensures.labels_len c.number.ensures.by_index)
 
-pub returns-then-x-y : goal.returns-then-x-y
-returns-then-x-y c =
+pub returns-then-joined : goal.returns-then-joined
+returns-then-joined c =
     let h = c.loop-line in
     let q = sym c.both_closed.ensures ∙ c.if-both_closed.true in
-    record { value = running-return c.requires.read c.requires.net_value h.invariant.1 (omega arith) q c.station_of.ensures.value c.station_of-then-both_closed.ensures.value c.if-x-y.true; labelled = λ e. absurd (true≢false e) }
+    record { value = running-return c.requires.read c.requires.net_value h.invariant.1 (omega arith) q c.station_of.ensures.value c.station_of-then-both_closed.ensures.value c.if-joined.true; labelled = λ e. absurd (true≢false e) }
 
 pub loop-line-preserved : goal.loop-line-preserved
 loop-line-preserved c =
     let h = c.loop-line in
     elim c.if-both_closed.branch [
-      | then-both_closed+else-x-y w ↦ rw w.labels-is (h.invariant.0, running-join c.requires.read c.requires.net_value h.invariant.1 (omega arith) (sym c.both_closed.ensures ∙ w.if-both_closed.true) w.station_of.ensures.value w.station_of-then-both_closed.ensures.value w.if-x-y.false w.rename.ensures.labels_len w.rename.ensures.by_index)
+      | then-both_closed+else-joined w ↦ rw w.labels-is (h.invariant.0, running-join c.requires.read c.requires.net_value h.invariant.1 (omega arith) (sym c.both_closed.ensures ∙ w.if-both_closed.true) w.station_of.ensures.value w.station_of-then-both_closed.ensures.value w.if-joined.false w.rename.ensures.labels_len w.rename.ensures.by_index)
       | else-both_closed w ↦ rw w.labels-is (h.invariant.0, running-skip c.requires.read c.requires.net_value h.invariant.1 (omega arith) (sym c.both_closed.ensures ∙ w.if-both_closed.false))
     ]
 

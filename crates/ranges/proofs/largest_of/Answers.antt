@@ -15,10 +15,10 @@ pub returns-in-Lines : goal.returns-in-Lines
 unfolding largest_of
 returns-in-Lines c = rw c.in-Lines.is
 
-pub returns-then-first-eq1 : goal.returns-then-first-eq1
+pub returns-then-at_hv : goal.returns-then-at_hv
 unfolding largest_of
-returns-then-first-eq1 c = rw c.in-NoneAtHv.is (rw (eq-eqb c.args.first 1 c.if-first-eq1.true, largest_of) refl)
+returns-then-at_hv c = rw c.in-NoneAtHv.is (rw (eq-eqb c.args.first 1 c.if-at_hv.true, largest_of) refl)
 
-pub returns-else-first-eq1 : goal.returns-else-first-eq1
+pub returns-else-at_hv : goal.returns-else-at_hv
 unfolding largest_of
-returns-else-first-eq1 c = rw c.in-NoneAtHv.is (rw (ne_eqb c.args.first 1 c.if-first-eq1.false, largest_of) refl)
+returns-else-at_hv c = rw c.in-NoneAtHv.is (rw (ne_eqb c.args.first 1 c.if-at_hv.false, largest_of) refl)

@@ -5,7 +5,7 @@ use lib.ListN.{length-set}
 use lib.Seq.{get_or-set_other}
 use Rattle.relations.proofs.Listing.{listed-none, listed-past, listed_more, listed-closed}
 use Rattle.relations.proofs.fill_list.Goals as goal
-use Rattle.relations.proofs.fill_list.Goals.{then-relations-row-ne0, else-relations-row-ne0}
+use Rattle.relations.proofs.fill_list.Goals.{then-related, else-related}
 
 pub loop-p-init : goal.loop-p-init
 loop-p-init c = (refl, omega arith, omega arith, refl, c.requires.3, listed-none refl refl, λ k h. refl)
@@ -16,17 +16,17 @@ loop-p-preserved c =
     let i = h.invariant in
     let t = c.loop-p-test.true in
     let f = i.5.row.few in
-    elim c.if-relations-row-ne0.branch [
-      | then-relations-row-ne0 w ↦ rw (w.lists-is, w.found-is) (
+    elim c.if-related.branch [
+      | then-related w ↦ rw (w.lists-is, w.found-is) (
         i.0,
         omega arith,
         omega arith,
         i.3,
         length-set h.lists _ h.p ∙ i.4,
-        listed_more i.5 i.1 (omega arith) w.if-relations-row-ne0.true,
+        listed_more i.5 i.1 (omega arith) w.if-related.true,
         λ k b. get_or-set_other h.lists _ k h.p 0 (λ e. omega arith) ∙ i.6 k b,
       )
-      | else-relations-row-ne0 w ↦ rw (w.lists-is, w.found-is) (i.0, omega arith, omega arith, i.3, i.4, listed-past i.5 i.1 w.if-relations-row-ne0.false, i.6)
+      | else-related w ↦ rw (w.lists-is, w.found-is) (i.0, omega arith, omega arith, i.3, i.4, listed-past i.5 i.1 w.if-related.false, i.6)
     ]
 
 pub returns : goal.returns

@@ -9,8 +9,8 @@ use Rattle.theory.specs.Sizes.{read-sized, total_size, largest_size}
 use Rattle.bounds.specs.Bounds.{places_from}
 use Rattle.search.proofs.goes_on.Goals as goal
 
-pub returns-then-left-eq0 : goal.returns-then-left-eq0
-returns-then-left-eq0 c = (λ _. inl c.if-left-eq0.true, λ e. absurd (true≢false (sym e)))
+pub returns-then-full : goal.returns-then-full
+returns-then-full c = (λ _. inl c.if-full.true, λ e. absurd (true≢false (sym e)))
 
 pub returns-then-place_count-from : goal.returns-then-place_count-from
 returns-then-place_count-from c = (λ _. inr (inl (omega (arith, c.if-place_count-from.true, c.place_count.ensures))), λ e. absurd (true≢false (sym e)))
@@ -20,7 +20,7 @@ returns-then-found c = (λ _. inr (inr (inl c.if-found.true)), λ e. absurd (tru
 
 pub most_saved-more-requires : goal.most_saved-more-requires
 most_saved-more-requires c =
-    (c.requires.1, c.requires.0.read.place_count, omega (arith, c.if-left-eq0.false), c.requires.4, c.requires.5, omega (arith, c.if-place_count-from.false, c.place_count.ensures))
+    (c.requires.1, c.requires.0.read.place_count, omega (arith, c.if-full.false), c.requires.4, c.requires.5, omega (arith, c.if-place_count-from.false, c.place_count.ensures))
 
 pub can_pass-requires : goal.can_pass-requires
 can_pass-requires c =
@@ -34,7 +34,7 @@ returns c =
     let reached = c.args.saved.0 + c.most_saved-more.result in (
       λ e. inr (inr (inr (omega (arith, ltb-false most reached (sym passes ∙ e), c.most_saved-more.ensures)))),
       λ e. record {
-        some = c.if-left-eq0.false;
+        some = c.if-full.false;
         high = omega (arith, c.if-place_count-from.false, c.place_count.ensures);
         unspent = c.if-found.false;
         hope = omega (arith, ltb-true most reached (sym passes ∙ e), c.most_saved-more.ensures);

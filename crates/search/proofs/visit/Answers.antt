@@ -15,16 +15,16 @@ returns-then-progress-visits c =
     let k = c.requires.4 in
     (c.requires.1, record { saved = k.saved; count = k.count; visits = k.visits; limit = k.limit }, visit-spent n S c.args.progress c.args.best.now (c.if-progress-visits.true ∙ c.visits.ensures))
 
-pub below-requires : goal.below-requires
-below-requires c = tt
+pub below-better-requires : goal.below-better-requires
+below-better-requires c = tt
 
-pub returns-then-below : goal.returns-then-below
-returns-then-below c =
+pub returns-then-better : goal.returns-then-better
+returns-then-better c =
     let n = network_in c.args.net.now in
     let S = take c.args.size c.args.set.now in
     let k = c.put_numbers in
     let l : c.args.progress.visits ≡ n.head.visits → ⊥ = λ e. c.if-progress-visits.false (e ∙ sym c.visits.ensures) in
-    let b = sym c.below.ensures ∙ c.if-below.true in
+    let b = sym c.below-better.ensures ∙ c.if-better.true in
     let most : c.args.saved.0 ≤ total n = omega (arith, c.requires.3) in (
       written-long c.args.set.now c.args.best.now k.new.lent c.args.size (omega (arith, c.requires)) (omega (arith, c.requires)) k.ensures ∙ c.requires.1,
       record { saved = most; count = c.requires.2; visits = omega arith; limit = c.requires.4.limit },
@@ -36,4 +36,4 @@ returns c =
     let n = network_in c.args.net.now in
     let S = take c.args.size c.args.set.now in
     let l : c.args.progress.visits ≡ n.head.visits → ⊥ = λ e. c.if-progress-visits.false (e ∙ sym c.visits.ensures) in
-    (c.requires.1, record { saved = c.requires.4.saved; count = c.requires.4.count; visits = omega arith; limit = c.requires.4.limit }, visit-other n S c.args.progress c.args.best.now c.requires.4 l c.args.saved.0 c.requires.3 (sym c.below.ensures ∙ c.if-below.false))
+    (c.requires.1, record { saved = c.requires.4.saved; count = c.requires.4.count; visits = omega arith; limit = c.requires.4.limit }, visit-other n S c.args.progress c.args.best.now c.requires.4 l c.args.saved.0 c.requires.3 (sym c.below-better.ensures ∙ c.if-better.false))
