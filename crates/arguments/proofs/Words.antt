@@ -1,50 +1,55 @@
--- Words compared byte by byte.
-use Prim.Native.Nat.{ℕ, suc, ◌+◌, ◌≤◌, ◌<◌}
-use mathlib.Core.Path.{◌≡◌, refl, sym, ap, ap₂, ◌∙◌}
-use mathlib.Core.Bool.{Bool, true, false, ◌&&◌}
+-- What a word stands for, by a table.
+use Prim.Native.Nat.{ℕ}
+use mathlib.Core.Path.{◌≡◌, refl, ap, ◌∙◌}
+use mathlib.Core.Bool.{Bool, true, false, ◌&&◌, cond}
 use mathlib.Core.List.{List, [], ◌∷◌}
-use native.Mathlib.Numerals.{add-one}
-use native.Mathlib.Omega.{arith}
-use lib.ListN.{length, get_or, drop, drop_of_length-le}
-use lib.Seq.{drop-cons}
 use lib.Dec.{eqb}
-use borrow.Author.Tests.{eq-eqb, ne_eqb}
+use lib.Pointwise.{pointwise}
+use denote.Param.Members.{Mut}
+use Rattle.std.specs.Prelude.{Option, None, Some, MatchOption, ⊤}
+use Rattle.std.specs.Fn.{CalledAt}
+use Rattle.std.specs.Option.{option_map}
+use Rattle.std.specs.Iterator.{YieldsThen}
+use Rattle.std.specs.Borrow.{Bor}
+use Rattle.std.specs.List.{find, FoldsTo}
+use Rattle.std.proofs.lemmas.Iterator.{YieldsList}
+use Rattle.std.proofs.lemmas.Iterator.Search.{find_from_yields_List}
+use Rattle.model.specs.declared.Word.{Word}
 use Rattle.model.specs.Commands.{same_word}
 
--- words of different lengths differ
-pub lengths_differ : (a b : List ℕ) → (length a ≡ length b → ⊥) → false ≡ same_word a b
+-- bytes compared one by one
+same-bytes : (a b : List ℕ) → pointwise eqb a b ≡ same_word a b
 unfolding same_word
-lengths_differ [] [] h = absurd (h refl)
-lengths_differ [] (y ∷ ys) h = refl
-lengths_differ (x ∷ xs) [] h = refl
-lengths_differ (x ∷ xs) (y ∷ ys) h = go (eqb x y) (lengths_differ xs ys (λ e. h (ap suc e)))
-  where
-    go : (t : Bool) → false ≡ same_word xs ys → false ≡ t && same_word xs ys
-    go true e = e
-    go false e = refl
+same-bytes [] [] = refl
+same-bytes [] (y ∷ ys) = refl
+same-bytes (x ∷ xs) [] = refl
+same-bytes (x ∷ xs) (y ∷ ys) = ap (λ t. eqb x y && t) (same-bytes xs ys)
 
-module _ (a b : List ℕ) where
-  -- what is left of the words is the same just as the words are
-  pub record Alike (i : ℕ) : Type 0 where
-    pub long : length a ≡ length b
-    pub rest : same_word a b ≡ same_word (drop i a) (drop i b)
+module _ (w : List ℕ) where
+  -- an entry of a table is that of the word
+  abbrev pub is_entry : Bor (List ℕ) × Word → Bool
+  is_entry e = pointwise eqb w e.0.now
 
-  pub alike-start : length a ≡ length b → Alike 0
-  alike-start e = record { long = e; rest = refl }
+  -- what an entry says; where there is none, the word is another
+  abbrev pub stands : Option (Bor (List ℕ) × Word) → Word
+  stands None = Word.Other
+  stands (Some e) = e.1
 
-  split : (i : ℕ) → i < length a → Alike i → same_word a b ≡ (eqb (get_or a i 0) (get_or b i 0) && same_word (drop (suc i) a) (drop (suc i) b))
-  unfolding same_word
-  split i h k = k.rest ∙ ap₂ same_word (drop-cons a i 0 h) (drop-cons b i 0 (omega (arith, k.long)))
+  abbrev pub in_table : List (Bor (List ℕ) × Word) → Word
+  in_table [] = Word.Other
+  in_table (e ∷ es) = elim (same_word w e.0.now) [ true ↦ e.1 | false ↦ in_table es ]
 
-  pub alike_next : (i : ℕ) → i < length a → get_or a i 0 ≡ get_or b i 0 → Alike i → Alike (i + 1)
-  alike_next i h e k = record {
-    long = k.long;
-    rest = split i h k ∙ ap (λ t. t && same_word (drop (suc i) a) (drop (suc i) b)) (eq-eqb _ _ e) ∙ ap₂ (λ (s t : ℕ). same_word (drop s a) (drop t b)) (sym (add-one i)) (sym (add-one i));
-  }
+  pub stands-in : (es : List (Bor (List ℕ) × Word)) → stands (find is_entry es) ≡ in_table es
+  stands-in [] = refl
+  stands-in (e ∷ es) = ap (λ s. stands (cond s (Some e) (find is_entry es))) (same-bytes w e.0.now) ∙ go (same_word w e.0.now) (stands-in es)
+    where
+      go : (t : Bool) → stands (find is_entry es) ≡ in_table es → stands (cond t (Some e) (find is_entry es)) ≡ elim t [ true ↦ e.1 | false ↦ in_table es ]
+      go true q = refl
+      go false q = q
 
-  pub alike-not : (i : ℕ) → i < length a → (get_or a i 0 ≡ get_or b i 0 → ⊥) → Alike i → false ≡ same_word a b
-  alike-not i h e k = sym (split i h k ∙ ap (λ t. t && same_word (drop (suc i) a) (drop (suc i) b)) (ne_eqb _ _ e))
-
-  pub alike_end : (i : ℕ) → length a ≤ i → Alike i → true ≡ same_word a b
-  unfolding same_word
-  alike_end i h k = sym (k.rest ∙ ap₂ same_word (drop_of_length-le a {i = i} h) (drop_of_length-le b {i = i} (omega (arith, k.long))))
+  -- a search of a table for the word finds what the table says
+  pub found-in : {S A F : Type 0} {steps : S → Option A → S → Type 0} {v : A → Bor (List ℕ) × Word} {g : Mut F (Bor A × Unit {0}) Bool} {s : S} {table : List (Bor (List ℕ) × Word)}
+      → YieldsList steps v s table → (u : S) (f : F) (r : Option A)
+      → (xs : List A) × (j : F) × YieldsThen steps s xs r u × FoldsTo (λ p x q. CalledAt g p x false q) f xs j × MatchOption r ⊤ (λ x. (h : F) × CalledAt g j x true h)
+      → ((x : A) (b : Bool) (q : F) → CalledAt g f x b q → (q ≡ f) × (b ≡ is_entry (v x))) → stands (option_map v r) ≡ in_table table
+  found-in {table = table} y u f r ran called = ap stands (find_from_yields_List is_entry u f r ran y called) ∙ stands-in table

@@ -1,158 +1,125 @@
 // The words behind the program's name: what they ask for.
 #![tactic(auto)]
 
-ghost use Rattle.std.specs.Prelude.{◌≡◌, List, ℕ};
+ghost use Rattle.std.specs.Prelude.{◌≡◌, []};
 ghost use Rattle.model.specs.declared.Word.{Word};
+ghost use Rattle.model.specs.declared.Misuse.{Misuse};
 ghost use Rattle.model.specs.Format.{number_of};
-ghost use Rattle.model.specs.Commands.{same_word, look_up, number_words, help_words, word_of, alone, with_file, impact_asked, ceiling_asked, asked, requested};
+ghost use Rattle.arguments.specs.Numbers.{number_or};
+ghost use Rattle.model.specs.Commands.{word_of, alone, with_file, impact_asked, ceiling_asked, asked, requested};
 
-use fields::Number;
-use model::{Command, Request, Word};
-
-// Whether two words are the same.
-fn same_word(a: &[u8], b: &[u8]) -> bool
-    ensures { result ≡ same_word a.now b.now }
-{
-    if a.len() != b.len() {
-        return false;
-    }
-    let mut i: usize = 0;
-    while i < a.len() {
-        if a[i] != b[i] {
-            return false;
-        }
-        i += 1;
-    }
-    true
-}
-
-// What a word stands for that is for the help or the version, or another word.
-fn help_word(word: &[u8]) -> Word
-    ensures { result ≡ look_up help_words Word.Other word.now }
-{
-    if same_word(word, b"help") {
-        return Word::Help;
-    }
-    if same_word(word, b"--help") {
-        return Word::Help;
-    }
-    if same_word(word, b"-h") {
-        return Word::Help;
-    }
-    if same_word(word, b"version") {
-        return Word::Version;
-    }
-    Word::Other
-}
-
-// The same, for a word that may also be for a command that takes numbers.
-fn number_word(word: &[u8]) -> Word
-    ensures { result ≡ look_up number_words (look_up help_words Word.Other word.now) word.now }
-{
-    if same_word(word, b"impact") {
-        return Word::Impact;
-    }
-    if same_word(word, b"ceiling") {
-        return Word::Ceiling;
-    }
-    help_word(word)
-}
+use model::{Command, Misuse, Request, Word};
 
 // What the first word stands for.
 fn word_of(word: &[u8]) -> Word
     ensures { result ≡ word_of word.now }
 {
-    if same_word(word, b"report") {
-        return Word::Report;
+    let words: [(&[u8], Word); 11] = [
+        (b"report", Word::Report),
+        (b"check", Word::Check),
+        (b"total", Word::Total),
+        (b"search", Word::Search),
+        (b"segments", Word::Segments),
+        (b"impact", Word::Impact),
+        (b"ceiling", Word::Ceiling),
+        (b"help", Word::Help),
+        (b"--help", Word::Help),
+        (b"-h", Word::Help),
+        (b"version", Word::Version),
+    ];
+    let known = words.iter().find(|(name, _)| word == *name);
+    match known {
+        Some((_, stands)) => *stands,
+        None => Word::Other,
     }
-    if same_word(word, b"check") {
-        return Word::Check;
-    }
-    if same_word(word, b"total") {
-        return Word::Total;
-    }
-    if same_word(word, b"search") {
-        return Word::Search;
-    }
-    if same_word(word, b"segments") {
-        return Word::Segments;
-    }
-    number_word(word)
 }
 
 // A request that takes none of the words that are left.
-fn by_itself(request: Request, left: usize) -> Request
+#[tactic(auto, unfolding(model::specs::Commands::alone))]
+fn by_itself(request: Request, left: usize) -> Result<Request, Misuse>
     ensures { result ≡ alone request left }
 {
-    if left == 0 { request } else { Request::TooMany }
+    if left == 0 {
+        Ok(request)
+    } else {
+        Err(Misuse::TooMany)
+    }
 }
 
 // A command whose file is named by the word that is left, number `next`, or comes from standard input.
-fn with_file(command: Command, next: usize, left: usize) -> Request
+#[tactic(auto, unfolding(model::specs::Commands::with_file))]
+fn with_file(command: Command, next: usize, left: usize) -> Result<Request, Misuse>
     ensures { result ≡ with_file command next left }
 {
-    if left == 0 {
-        return Request::Ask { command, file: 0 };
-    }
-    if left == 1 {
-        return Request::Ask {
+    match left {
+        0 => Ok(Request::Ask {
             command,
-            file: next,
-        };
+            file: None,
+        }),
+        1 => Ok(Request::Ask {
+            command,
+            file: Some(next),
+        }),
+        _ => Err(Misuse::TooMany),
     }
-    Request::TooMany
+}
+
+// The number that a word is, which is word `word` behind the program's name.
+fn number_at(word: usize, bytes: &[u8]) -> Result<u64, Misuse>
+    ensures { result ≡ number_or (Misuse.BadNumber word) (number_of bytes.now) }
+{
+    fields::read_number(bytes).ok_or(Misuse::BadNumber { word })
 }
 
 // impact LINE
-fn impact_asked(left: usize, line: &[u8]) -> Request
+#[tactic(auto, unfolding(model::specs::Commands::impact_asked))]
+fn impact_asked(left: usize, line: &[u8]) -> Result<Request, Misuse>
     ensures { result ≡ impact_asked left (number_of line.now) }
 {
     if left == 0 {
-        return Request::NoNumber;
+        return Err(Misuse::NoNumber);
     }
-    match fields::read_number(line) {
-        Number::Bad => Request::BadNumber { word: 2 },
-        Number::Value(l) => with_file(Command::Impact(l), 3, left - 1),
-    }
+    let line = number_at(2, line)?;
+    with_file(Command::Impact(line), 3, left - 1)
 }
 
 // ceiling PLACES ADDITIONS
-fn ceiling_asked(left: usize, second: &[u8], third: &[u8]) -> Request
+#[tactic(auto, unfolding(model::specs::Commands::ceiling_asked, model::specs::Commands::sets_asked))]
+fn ceiling_asked(left: usize, second: &[u8], third: &[u8]) -> Result<Request, Misuse>
     ensures { result ≡ ceiling_asked left (number_of second.now) (number_of third.now) }
 {
     if left < 2 {
-        return Request::NoNumber;
+        return Err(Misuse::NoNumber);
     }
-    match fields::read_number(second) {
-        Number::Bad => Request::BadNumber { word: 2 },
-        Number::Value(places) => match fields::read_number(third) {
-            Number::Bad => Request::BadNumber { word: 3 },
-            Number::Value(additions) => by_itself(
-                Request::Ask {
-                    command: Command::Ceiling { places, additions },
-                    file: 0,
-                },
-                left - 2,
-            ),
+    let places = number_at(2, second)?;
+    let additions = number_at(3, third)?;
+    let command = Command::Ceiling { places, additions };
+    by_itself(
+        Request::Ask {
+            command,
+            file: None,
         },
-    }
+        left - 2,
+    )
 }
 
 // The only word that is no command names the file of a report.
-fn file_asked(left: usize) -> Request
-    ensures { (second third : List ℕ) → result ≡ asked Word.Other left second third }
+#[tactic(auto, unfolding(model::specs::Commands::asked))]
+fn file_asked(left: usize) -> Result<Request, Misuse>
+    ensures { result ≡ asked Word.Other left [] [] }
 {
     if left == 0 {
-        return Request::Ask {
+        return Ok(Request::Ask {
             command: Command::Report,
-            file: 1,
-        };
+            file: Some(1),
+        });
     }
-    Request::Unknown
+    Err(Misuse::Unknown)
 }
 
 // What is asked for, by the first word, how many words are left behind it, and the next two of them.
-fn asked_by(word: Word, left: usize, second: &[u8], third: &[u8]) -> Request
+#[tactic(auto, unfolding(model::specs::Commands::asked))]
+fn asked_by(word: Word, left: usize, second: &[u8], third: &[u8]) -> Result<Request, Misuse>
     ensures { result ≡ asked word left second.now third.now }
 {
     match word {
@@ -170,17 +137,18 @@ fn asked_by(word: Word, left: usize, second: &[u8], third: &[u8]) -> Request
 }
 
 // What `count` words ask for, of which the first three are given; those that are not there do not matter.
-pub fn request(count: usize, first: &[u8], second: &[u8], third: &[u8]) -> Request
+#[tactic(auto, unfolding(model::specs::Commands::requested))]
+pub fn request(count: usize, first: &[u8], second: &[u8], third: &[u8]) -> Result<Request, Misuse>
     ensures { result ≡ requested count first.now second.now third.now }
 {
     if count == 0 {
-        return Request::Ask {
+        return Ok(Request::Ask {
             command: Command::Report,
-            file: 0,
-        };
+            file: None,
+        });
     }
     if 3 < count {
-        return Request::TooMany;
+        return Err(Misuse::TooMany);
     }
     asked_by(word_of(first), count - 1, second, third)
 }

@@ -3,10 +3,11 @@
 
 ghost use Rattle.std.specs.Prelude.{◌≡◌, true, false, ◌+◌, ◌^◌, ◌≤◌, ◌<◌};
 ghost use Rattle.model.specs.Ceiling.{binomial, set_count};
-ghost use Rattle.model.specs.Calls.{ceiling_answered, ceiling_says};
+ghost use Rattle.model.specs.Answer.{says};
+ghost use Rattle.model.specs.Calls.{ceiling_answered};
 ghost use Rattle.binomials.specs.Pascal.{Binomials};
 
-use model::CeilingAnswer;
+use model::Refusal;
 
 mod table;
 
@@ -45,20 +46,14 @@ fn many_additions(additions: u64) -> bool
 }
 
 // How many sets of at most `additions` (0 to 16) of `places` (0 to 64) places there are.
-pub fn ceiling(places: u64, additions: u64) -> CeilingAnswer
-    ensures { ceiling_says result ≡ ceiling_answered places additions }
+pub fn ceiling(places: u64, additions: u64) -> Result<u64, Refusal>
+    ensures { says result ≡ ceiling_answered places additions }
 {
     if many_places(places) {
-        return CeilingAnswer::Refused {
-            number: 2,
-            record: 0,
-        };
+        return Err(Refusal::NoSuchNumber);
     }
     if many_additions(additions) {
-        return CeilingAnswer::Refused {
-            number: 2,
-            record: 0,
-        };
+        return Err(Refusal::NoSuchNumber);
     }
-    CeilingAnswer::Sets(set_count(&table::BINOMIALS, places as usize, additions as usize))
+    Ok(set_count(&table::BINOMIALS, places as usize, additions as usize))
 }

@@ -4,8 +4,9 @@
 ghost use Rattle.std.specs.Prelude.{◌≡◌, ◌+◌, ◌≤◌, ◌<◌, length, take};
 ghost use Rattle.model.specs.Walk.{insert};
 ghost use Rattle.walks.specs.Largest.{Falls};
-ghost use Rattle.buffer.specs.Buffer.{network_in};
 ghost use Rattle.bounds.specs.Bounds.{Small, Savings, Column, Bounds, most_saved, HoldsBounds};
+
+use network::Network;
 
 // Inserts a number into a list in falling order, the first `size` numbers of an array.
 fn insert_falling(list: &mut [u64; 64], size: usize, number: u64)
@@ -54,10 +55,10 @@ pub fn fill_bounds(savings: &[u64; 64], count: usize, bounds: &mut [u64; 1105])
 }
 
 // The sum of the `left` largest savings of the places from `from` on.
-pub fn most_saved(net: &buffer::Net, bounds: &[u64; 1105], left: usize, from: usize) -> u64
-    requires { HoldsBounds (network_in net.now) bounds.now × (length (network_in net.now).places ≤ 64)
-        × (1 ≤ left) × (left ≤ 16) × (1 ≤ from) × (from ≤ length (network_in net.now).places) }
-    ensures { result ≡ most_saved (network_in net.now) left from }
+pub fn most_saved(net: &Network, bounds: &[u64; 1105], left: usize, from: usize) -> u64
+    requires { HoldsBounds net.now bounds.now × (length net.now.places ≤ 64)
+        × (1 ≤ left) × (left ≤ 16) × (1 ≤ from) × (from ≤ length net.now.places) }
+    ensures { result ≡ most_saved net.now left from }
 {
     bounds[left * 65 + from - 1]
 }

@@ -1,144 +1,176 @@
-// The path from an HV station that passes the most breakers, for rule 9. A row `reach` has for each station one more than the breakers
-// on its path, or 0 if it is not reached, and a row `feeders` the last line of that path.
+// The paths from HV stations, and the breakers that they pass.
 #![tactic(auto)]
 
-ghost use Rattle.theory.specs.Reading.{Read};
-ghost use Rattle.buffer.specs.Buffer.{network_in};
+use lookups::{LineSet, closed_at};
+use network::{Line, Network, Role, Side, State};
 
-use lookups::{breakers_at, closed_at, is_hv, number_at, put_at, sum};
-
-// The breakers at both ends of a line.
-fn breakers_on(net: &buffer::Net, line: u64) -> u64
-    requires { Read (network_in net.now) }
-{
-    sum(breakers_at(net, line, 1), breakers_at(net, line, 2))
+// How many breakers are on a line.
+fn breakers_on(line: &Line) -> u64 {
+    [line.state1, line.state2]
+        .iter()
+        .filter(|&&state| state == State::Breaker)
+        .count() as u64
 }
 
-// The HV stations are reached without a breaker.
-fn start(net: &buffer::Net, reach: &mut [u64])
-    requires { Read (network_in net.now) }
-{
-    for station in 1..513 {
-        if is_hv(net, station) {
-            put_at(reach, station, 1);
+// How a path from an HV station reaches a station: past how many breakers, and over which line at last, if over any.
+#[derive(Clone, Copy, Debug, PartialEq, Eq)]
+struct Reach {
+    breakers: u64,
+    feeder: Option<usize>,
+}
+
+// How each station is reached from the HV stations of a network, if it is.
+#[derive(Clone, Copy)]
+struct Reaches<'a> {
+    network: &'a Network,
+    reaches: [Option<Reach>; 512],
+}
+
+impl<'a> Reaches<'a> {
+    // The HV stations are reached without a breaker.
+    fn start(network: &'a Network) -> Self {
+        let mut reaches = [None; 512];
+        for (station, reach) in network.stations().iter().zip(&mut reaches) {
+            if station.role == Role::Hv {
+                *reach = Some(Reach {
+                    breakers: 0,
+                    feeder: None,
+                });
+            }
+        }
+        Reaches { network, reaches }
+    }
+
+    // How the stations of a network are reached.
+    fn of(network: &'a Network) -> Self {
+        let mut reaches = Reaches::start(network);
+        for _ in 0..768 {
+            if !reaches.spread() {
+                break;
+            }
+        }
+        reaches
+    }
+
+    // How a station is reached.
+    fn at(&self, station: usize) -> Option<Reach> {
+        *self.reaches.get(station.checked_sub(1)?)?
+    }
+
+    // Goes once over all lines; answers whether that reaches a station anew.
+    fn spread(&mut self) -> bool {
+        let mut found = false;
+        let network = self.network;
+        for (number, line) in (1..).zip(network.lines()) {
+            let step = self
+                .step(number, line, Side::One)
+                .or_else(|| self.step(number, line, Side::Two));
+            if let Some((station, reach)) = step {
+                self.put(station, reach);
+                found = true;
+            }
+        }
+        found
+    }
+
+    // The station that a line reaches anew from its end `near`, and how.
+    fn step(&self, number: usize, line: &Line, near: Side) -> Option<(usize, Reach)> {
+        let before = self.at(closed_at(line, near)?)?;
+        let station = closed_at(line, near.other())?;
+        match self.at(station) {
+            Some(_) => None,
+            None => Some((
+                station,
+                Reach {
+                    breakers: before.breakers.saturating_add(breakers_on(line)),
+                    feeder: Some(number),
+                },
+            )),
         }
     }
-}
 
-// Goes over a line from its end `near` to its end `far`; answers whether that reaches a station anew.
-fn step(
-    net: &buffer::Net,
-    line: u64,
-    near: u64,
-    far: u64,
-    reach: &mut [u64],
-    feeders: &mut [u64],
-) -> bool
-    requires { Read (network_in net.now) }
-{
-    let passed = number_at(reach, closed_at(net, line, near));
-    let station = closed_at(net, line, far);
-    if passed == 0 || station == 0 || number_at(reach, station) != 0 {
-        return false;
-    }
-    put_at(reach, station, sum(passed, breakers_on(net, line)));
-    put_at(feeders, station, line);
-    true
-}
-
-// Goes over a line either way; answers whether that reaches a station anew.
-fn step_line(net: &buffer::Net, line: u64, reach: &mut [u64], feeders: &mut [u64]) -> bool
-    requires { Read (network_in net.now) }
-{
-    step(net, line, 1, 2, reach, feeders) || step(net, line, 2, 1, reach, feeders)
-}
-
-// Goes once over all lines; answers whether that reaches a station anew.
-fn step_once(net: &buffer::Net, reach: &mut [u64], feeders: &mut [u64]) -> bool
-    requires { Read (network_in net.now) }
-{
-    let mut found = false;
-    for line in 1..769 {
-        if step_line(net, line, reach, feeders) {
-            found = true;
+    // Notes how a station is reached.
+    fn put(&mut self, station: usize, reach: Reach) {
+        if let Some(index) = station.checked_sub(1)
+            && let Some(place) = self.reaches.get_mut(index)
+        {
+            *place = Some(reach);
         }
     }
-    found
-}
 
-// Fills the rows from the HV stations outwards.
-pub fn spread(net: &buffer::Net, reach: &mut [u64], feeders: &mut [u64])
-    requires { Read (network_in net.now) }
-{
-    start(net, reach);
-    for round in 0..768u64 {
-        if !step_once(net, reach, feeders) {
-            return;
+    // The last line of the path to a station, if it goes over any.
+    fn feeder(&self, station: usize) -> Option<usize> {
+        self.at(station)?.feeder
+    }
+
+    // The station at the end of a line that is nearer to the HV station.
+    fn near_station(&self, number: usize, line: &Line) -> Option<usize> {
+        match closed_at(line, Side::One) {
+            Some(station) if self.feeder(station) != Some(number) => Some(station),
+            _ => closed_at(line, Side::Two),
         }
     }
-}
 
-// The station at the end of a line that is nearer to the HV station.
-fn near_station(net: &buffer::Net, feeders: &[u64], line: u64) -> u64
-    requires { Read (network_in net.now) }
-{
-    let a = closed_at(net, line, 1);
-    if a == 0 || number_at(feeders, a) == line {
-        closed_at(net, line, 2)
-    } else {
-        a
-    }
-}
-
-// The breakers on the path over a line, to its far end; 0 if there is none on the line itself.
-pub fn breakers_to(net: &buffer::Net, reach: &[u64], feeders: &[u64], line: u64) -> u64
-    requires { Read (network_in net.now) }
-{
-    let before = number_at(reach, near_station(net, feeders, line));
-    let here = breakers_on(net, line);
-    if before == 0 || here == 0 {
-        return 0;
-    }
-    sum(before - 1, here)
-}
-
-// The first line to which the path passes the most breakers, or 0.
-pub fn worst_line(net: &buffer::Net, reach: &[u64], feeders: &[u64]) -> u64
-    requires { Read (network_in net.now) }
-{
-    let mut worst: u64 = 0;
-    let mut most: u64 = 0;
-    for line in 1..769 {
-        let n = breakers_to(net, reach, feeders, line);
-        if most < n {
-            most = n;
-            worst = line;
+    // How many breakers the path over a line passes up to its far end, if there is one on the line itself.
+    fn breakers_to(&self, number: usize, line: &Line) -> Option<u64> {
+        let before = self.at(self.near_station(number, line)?)?;
+        match breakers_on(line) {
+            0 => None,
+            here => Some(before.breakers.saturating_add(here)),
         }
     }
-    worst
-}
 
-// Marks a line if a breaker is on it.
-fn mark_breakers(net: &buffer::Net, line: u64, marks: &mut [u64])
-    requires { Read (network_in net.now) }
-{
-    if breakers_on(net, line) != 0 {
-        put_at(marks, line, 1);
-    }
-}
-
-// Marks the lines with a breaker on the path to a line; answers the station where the path starts.
-pub fn mark_path(net: &buffer::Net, feeders: &[u64], last: u64, marks: &mut [u64]) -> u64
-    requires { Read (network_in net.now) }
-{
-    let mut line = last;
-    for round in 0..768u64 {
-        mark_breakers(net, line, marks);
-        let station = near_station(net, feeders, line);
-        line = number_at(feeders, station);
-        if line == 0 {
-            return station;
+    // The first line to which the path passes the most breakers, and how many.
+    fn farthest(&self) -> Option<(usize, u64)> {
+        let mut farthest: Option<(usize, u64)> = None;
+        for (number, line) in (1..).zip(self.network.lines()) {
+            if let Some(breakers) = self.breakers_to(number, line)
+                && farthest.is_none_or(|(_, most)| most < breakers)
+            {
+                farthest = Some((number, breakers));
+            }
         }
+        farthest
     }
-    0
+
+    // The path over a line that passes so many breakers.
+    fn path(&self, last: usize, breakers: u64) -> Option<Path> {
+        let mut lines = LineSet::empty();
+        let mut number = last;
+        for _ in 0..768 {
+            let line = lookups::line(self.network, number)?;
+            if breakers_on(&line) != 0 {
+                lines.insert(number);
+            }
+            let station = self.near_station(number, &line)?;
+            match self.feeder(station) {
+                Some(feeder) => number = feeder,
+                None => {
+                    return Some(Path {
+                        start: station,
+                        last,
+                        breakers,
+                        lines,
+                    });
+                }
+            }
+        }
+        None
+    }
+}
+
+// A path from an HV station to a line, with how many breakers it passes, and the lines that they are on.
+#[derive(Clone, Copy)]
+pub struct Path {
+    pub start: usize,
+    pub last: usize,
+    pub breakers: u64,
+    pub lines: LineSet,
+}
+
+// The path from an HV station that passes the most breakers.
+pub fn worst_path(network: &Network) -> Option<Path> {
+    let reaches = Reaches::of(network);
+    let (last, breakers) = reaches.farthest()?;
+    reaches.path(last, breakers)
 }

@@ -6,11 +6,11 @@ use native.Mathlib.Omega.{arith}
 use lib.ListN.{length, take, length-append}
 use lib.Seq.{take_at}
 use Rattle.model.specs.Answer.{Answer, given, refused, ◌>>=◌}
-use Rattle.model.specs.Text.{printed_line, line_x}
-use Rattle.model.specs.Calls.{written, reported, report_answered, report_leaves, report_says, text_or_x, printed}
-use Rattle.model.specs.declared.ReportAnswer.{ReportAnswer}
+use Rattle.model.specs.Text.{printed_line, report_text, line_x}
+use Rattle.model.specs.Rules.{accepted}
+use Rattle.model.specs.Calls.{written, reported, report_answered, report_leaves, text_or_x, printed}
 use Rattle.text.specs.Over.{Written}
-use Rattle.engine.proofs.Reporting.{file_text, reported-is}
+use Rattle.engine.proofs.Lending.{lent-enough}
 
 -- the text at the start of a list, and no more than the list
 starts : (text rest after : List ℕ) (n : ℕ) → n ≡ length text → after ≡ text ++ rest → (take n after ≡ text) × (n ≤ length after)
@@ -45,15 +45,21 @@ refusal-text (given text) number place e = absurd (given-not (sym e))
 refusal-text (refused n r) number place e = λ i. printed_line 88 (ap value e i ∷ ap record_of e i ∷ [])
 
 module _ (file buffer : List ℕ) (h : 32768 ≤ length buffer) where
-  pub report-printed : (n : ℕ) (after : List ℕ) → report_says (ReportAnswer.Written n) ≡ report_answered file buffer → after ≡ report_leaves file buffer → (take n after ≡ printed file) × (n ≤ length after)
-  unfolding report_says report_answered report_leaves printed
-  report-printed n after e p =
-      let s : reported file buffer ≡ file_text file buffer = sym (reported-is file buffer h) in
-      written-starts buffer (file_text file buffer) n after (e ∙ ap measured s) (p ∙ ap (λ a. written a buffer) s)
+  -- the report of the file, or its refusal
+  abbrev file_text : Answer (List ℕ)
+  file_text = accepted file >>= λ N. given (report_text N)
 
-  pub refusal-printed : (number place n : ℕ) (before after : List ℕ) → report_says (ReportAnswer.Refused number place) ≡ report_answered file buffer
+  reported-is : reported file buffer ≡ file_text
+  unfolding reported
+  reported-is = lent-enough 32768 buffer file_text h
+
+  pub report-printed : (n : ℕ) (after : List ℕ) → given n ≡ report_answered file buffer → after ≡ report_leaves file buffer → (take n after ≡ printed file) × (n ≤ length after)
+  unfolding report_answered report_leaves printed
+  report-printed n after e p = written-starts buffer file_text n after (e ∙ ap measured reported-is) (p ∙ ap (λ a. written a buffer) reported-is)
+
+  pub refusal-printed : (number place n : ℕ) (before after : List ℕ) → refused number place ≡ report_answered file buffer
       → Written (printed_line 88 (number ∷ place ∷ [])) before after n → (take n after ≡ printed file) × (n ≤ length after)
-  unfolding report_says report_answered printed
+  unfolding report_answered printed
   refusal-printed number place n before after e w =
       let s = starts (printed_line 88 (number ∷ place ∷ [])) _ after n w.0 w.1 in
-      (s.0 ∙ refusal-text (file_text file buffer) number place (e ∙ ap measured (sym (reported-is file buffer h))), s.1)
+      (s.0 ∙ refusal-text file_text number place (e ∙ ap measured reported-is), s.1)

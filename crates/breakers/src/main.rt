@@ -7,17 +7,22 @@ ghost use Rattle.model.specs.Calls.{printed};
 ghost use Rattle.model.specs.Commands.{prints};
 
 use commands::Said;
-use input::Input;
-use model::{Command, ReportAnswer, Request};
+use explanations::Explanation;
+use model::{Command, Refusal, Request};
 use std::env::{Env, FillError};
+use std::fmt::{Display, Write};
 use std::fs::File;
 use std::io::{ErrorKind, IsTerminal, Read};
 use std::{io, str};
+use usage::Complaint;
+use words::{Lent, Name};
 
-// Writes the text that ends before `at`.
-fn write_text(to: &impl Print, text: &[u8], at: usize) -> io::Result<()> {
-    let n = words::used(text, at);
-    to.write_all(&text[..n])
+// Writes a text, what does not fit into 20,000 bytes left out, by one write.
+fn write_text(to: &impl Print, text: &impl Display) -> io::Result<()> {
+    let mut buffer = [0u8; 20000];
+    let mut lent = Lent::new(&mut buffer);
+    let _ = write!(lent, "{text}");
+    to.write_all(lent.as_bytes())
 }
 
 // Why something failed, without the system's number for it, and the end of the line.
@@ -32,23 +37,31 @@ fn write_reason(rt: &HostRuntime, error: io::Error) -> io::Result<()> {
 }
 
 // The line that says what failed, and why, behind `start`.
-fn write_failure(rt: &HostRuntime, start: &[u8], what: &[u8], error: io::Error) -> io::Result<()> {
-    rt.stderr().write_all(start)?;
-    rt.stderr().write_all(what)?;
-    rt.stderr().write_all(b": ")?;
+fn write_failure(
+    rt: &HostRuntime,
+    start: &str,
+    what: &impl Display,
+    error: io::Error,
+) -> io::Result<()> {
+    rt.eprint(start)?;
+    write_text(&rt.stderr(), what)?;
+    rt.eprint(": ")?;
     write_reason(rt, error)
 }
 
 // Says on standard error what failed, and why.
-fn fail(rt: &HostRuntime, what: &[u8], error: io::Error) {
-    let _ = write_failure(rt, b"breakers: ", what, error);
+fn fail(rt: &HostRuntime, what: &impl Display, error: io::Error) {
+    let _ = write_failure(rt, "breakers: ", what, error);
 }
 
 // Says on standard error why a command was refused on a file.
-fn explain(rt: &HostRuntime, command: Command, file: &[u8], number: u64, record: u64) {
-    let mut text = [0u8; 2000];
-    let end = explanations::explain(command, file, number, record, &mut text);
-    let _ = write_text(&rt.stderr(), &text, end);
+fn explain(rt: &HostRuntime, command: Command, file: &[u8], refusal: Refusal) {
+    let explanation = Explanation {
+        command,
+        file,
+        refusal,
+    };
+    let _ = write_text(&rt.stderr(), &explanation);
 }
 
 // Writes what is printed for a file without a command at the start of a buffer: its report, or the line of its refusal.
@@ -57,55 +70,50 @@ fn put_answer(file: &[u8], out: &mut [u8]) -> Said
     ensures { (take result.bytes out.new ≡ printed file.now) × (result.bytes ≤ length out.new) }
 {
     match engine::report(file, out) {
-        ReportAnswer::Written(n) => Said {
-            bytes: n,
-            number: 0,
-            record: 0,
+        Ok(bytes) => Said {
+            bytes,
+            refusal: None,
         },
-        ReportAnswer::Refused { number, record } => {
-            let bytes = text::put_line(out, b'X', &[number, record]);
+        Err(refusal) => {
+            let bytes = text::put_line(out, b'X', &[refusal.number(), refusal.record()]);
             Said {
                 bytes,
-                number,
-                record,
+                refusal: Some(refusal),
             }
         }
     }
 }
 
-// Writes what a command prints for the first `bytes` bytes of a file's buffer at the start of another buffer.
-fn put_command(command: Command, file: &[u8], bytes: usize, out: &mut [u8]) -> Said
-    requires { (bytes ≤ length file.now) × (164375 ≤ length out.old) }
-    ensures { (take result.bytes out.new ≡ prints command (take bytes file.now)) × (result.bytes ≤ length out.new) }
+// Writes what a command prints for a file at the start of a buffer.
+fn put_command(command: Command, file: &[u8], out: &mut [u8]) -> Said
+    requires { 164375 ≤ length out.old }
+    ensures { (take result.bytes out.new ≡ prints command file.now) × (result.bytes ≤ length out.new) }
 {
     match command {
-        Command::Report => put_answer(&file[..bytes], out),
-        _ => commands::answer(command, file, bytes, out),
+        Command::Report => put_answer(file, out),
+        _ => commands::answer(command, file, out),
     }
 }
 
-// Prints what a command answers for the first `bytes` bytes of a file's buffer, and says why if it is a refusal.
-fn print_answer(rt: &HostRuntime, command: Command, file: &[u8], bytes: usize)
-    requires { bytes ≤ length file.now }
-{
+// Prints what a command answers for a file, and says why if it is a refusal.
+fn print_answer(rt: &HostRuntime, command: Command, file: &[u8]) {
     let mut out = commands::space();
-    let said = put_command(command, file, bytes, &mut out);
-    let n = said.bytes;
-    if let Err(e) = rt.write_all(&out[..n]) {
-        fail(rt, b"standard output", e);
+    let said = put_command(command, file, &mut out);
+    if let Err(e) = rt.write_all(&out[..said.bytes]) {
+        fail(rt, &"standard output", e);
         return;
     }
-    if said.number != 0 {
-        explain(rt, command, &file[..bytes], said.number, said.record);
+    if let Some(refusal) = said.refusal {
+        explain(rt, command, file, refusal);
     }
 }
 
 // Reads a file to its end and prints what a command answers for it, or says that it cannot be read.
-fn run<F: Read>(rt: &HostRuntime, command: Command, from: &mut F, name: &[u8]) {
+fn run<F: Read>(rt: &HostRuntime, command: Command, from: &mut F, name: &impl Display) {
     let mut file = input::space();
     match input::read(from, &mut file) {
-        Input::Failed(e) => fail(rt, name, e),
-        Input::Bytes(n) => print_answer(rt, command, &file, n),
+        Err(e) => fail(rt, name, e),
+        Ok(n) => print_answer(rt, command, &file[..n]),
     }
 }
 
@@ -116,7 +124,7 @@ fn run_input(rt: &HostRuntime, command: Command) {
             "breakers: reading a network file from standard input (Ctrl-D ends it; breakers help says more)",
         );
     }
-    run(rt, command, &mut rt.stdin(), b"standard input");
+    run(rt, command, &mut rt.stdin(), &"standard input");
 }
 
 // The system's number for a name that is too long.
@@ -136,79 +144,36 @@ fn open(rt: &HostRuntime, path: &[u8]) -> io::Result<File> {
     }
 }
 
-// Prints what a command answers for the file at a path, which is called `name` if it cannot be read. The first word may have been
-// meant as a command.
-fn run_path(rt: &HostRuntime, command: Command, path: &[u8], name: &[u8], word: usize) {
+// Prints what a command answers for the file that a word names. The first word may have been meant as a command.
+fn run_file(rt: &HostRuntime, command: Command, path: &[u8], word: usize) {
+    let name = Name(path);
     match open(rt, path) {
-        Ok(mut file) => run(rt, command, &mut file, name),
+        Ok(mut file) => run(rt, command, &mut file, &name),
         Err(e) if word == 1 => {
             let start =
-                b"breakers: no command (breakers help lists them), and no file that can be read: ";
-            let _ = write_failure(rt, start, name, e);
+                "breakers: no command (breakers help lists them), and no file that can be read: ";
+            let _ = write_failure(rt, start, &name, e);
         }
-        Err(e) => fail(rt, name, e),
+        Err(e) => fail(rt, &name, e),
     }
-}
-
-// Prints what a command answers for the file that a word names, by the word's number.
-fn run_file(rt: &HostRuntime, command: Command, path: &[u8], word: usize) {
-    let mut name = [0u8; 16400];
-    let end = words::put_name(&mut name, 0, path);
-    let n = words::used(&name, end);
-    run_path(rt, command, path, &name[..n], word);
 }
 
 // Carries out a command on the file that a word names, or on standard input.
-fn carry_out(
-    rt: &HostRuntime,
-    command: Command,
-    file: usize,
-    first: &[u8],
-    second: &[u8],
-    third: &[u8],
-) {
-    match command {
-        Command::Ceiling { .. } => {
-            let none = input::space();
-            print_answer(rt, command, &none, 0);
-        }
-        _ => {
-            if file == 0 {
-                run_input(rt, command);
-            } else if file == 1 {
-                run_file(rt, command, first, 1);
-            } else if file == 2 {
-                run_file(rt, command, second, 2);
-            } else {
-                run_file(rt, command, third, 3);
-            }
-        }
+fn carry_out(rt: &HostRuntime, command: Command, file: Option<usize>, words: [&[u8]; 3]) {
+    let [first, second, third] = words;
+    match (command, file) {
+        (Command::Ceiling { .. }, _) => print_answer(rt, command, &[]),
+        (_, None) => run_input(rt, command),
+        (_, Some(1)) => run_file(rt, command, first, 1),
+        (_, Some(2)) => run_file(rt, command, second, 2),
+        (_, Some(n)) => run_file(rt, command, third, n),
     }
 }
 
-// Prints a text that ends before `at`, or says that it cannot be printed.
-fn print_text(rt: &HostRuntime, text: &[u8], at: usize) {
-    if let Err(e) = write_text(rt, text, at) {
-        fail(rt, b"standard output", e);
-    }
-}
-
-// Prints the help or the version, or says how the words are wrong.
-fn tell(rt: &HostRuntime, request: Request, first: &[u8], second: &[u8], third: &[u8]) {
-    let mut text = [0u8; 2000];
-    match request {
-        Request::Help => {
-            let end = usage::put_help(&mut text, 0);
-            print_text(rt, &text, end);
-        }
-        Request::Version => {
-            let end = usage::put_version(&mut text, 0);
-            print_text(rt, &text, end);
-        }
-        _ => {
-            let end = usage::put_misuse(request, first, second, third, &mut text, 0);
-            let _ = write_text(&rt.stderr(), &text, end);
-        }
+// Prints a text, or says that it cannot be printed.
+fn print_text(rt: &HostRuntime, text: &str) {
+    if let Err(e) = rt.write_all(text.as_bytes()) {
+        fail(rt, &"standard output", e);
     }
 }
 
@@ -249,13 +214,15 @@ fn main(rt: HostRuntime) {
     let b = fetch(&rt, 2, &mut second);
     let mut third = word_space();
     let c = fetch(&rt, 3, &mut third);
+    let words = [&first[..a], &second[..b], &third[..c]];
     // Four words are too many, whatever follows.
-    let words = word_count(&rt, 4);
-    let request = arguments::request(words, &first[..a], &second[..b], &third[..c]);
-    match request {
-        Request::Ask { command, file } => {
-            carry_out(&rt, command, file, &first[..a], &second[..b], &third[..c]);
+    let count = word_count(&rt, 4);
+    match arguments::request(count, words[0], words[1], words[2]) {
+        Ok(Request::Ask { command, file }) => carry_out(&rt, command, file, words),
+        Ok(Request::Help) => print_text(&rt, usage::HELP),
+        Ok(Request::Version) => print_text(&rt, usage::VERSION),
+        Err(misuse) => {
+            let _ = write_text(&rt.stderr(), &Complaint { misuse, words });
         }
-        _ => tell(&rt, request, &first[..a], &second[..b], &third[..c]),
     }
 }

@@ -1,17 +1,34 @@
--- The first of the numbers 1 to n that passes a test, 0 where none does: what a loop that looks for it keeps.
+-- The first of the numbers 1 to n that passes a test, 0 where none does: and what a search for it says.
 use Prim.Native.Nat.{ℕ, zero, suc, ◌+◌, ◌≤◌, ◌<◌}
-use Rattle.std.specs.Prelude.{◌≡◌, Bool}
+use Rattle.std.specs.Prelude.{◌≡◌, Bool, Option, Some, None, MatchOption}
 use Rattle.std.proofs.Math.Path.{refl, ap}
 use Rattle.std.proofs.Common.{sym, ◌∙◌, true≢false, arith}
 use Rattle.std.proofs.Math.Bool.{true, false}
 use Rattle.std.proofs.Math.Decide.{ℕ_discrete}
 use Rattle.model.specs.Lists.{numbers, first_or}
 
--- none of the numbers before k passes
-pub record Passed (test : ℕ → Bool) (n k : ℕ) : Type 0 where
-  pub low : 1 ≤ k
-  pub inside : k ≤ n + 1
-  pub none : (j : ℕ) → 1 ≤ j → j < k → test j ≡ false
+-- the number that was found; 0 stands for none
+abbrev pub found : ℕ → Option ℕ
+found zero = None
+found (suc n) = Some (suc n)
+
+pub found-some : (k x : ℕ) → 1 ≤ k → k ≡ x → Some k ≡ found x
+found-some zero x l e = absurd (omega arith)
+found-some (suc k) x l e = ap found e
+
+pub found-none : (x : ℕ) → 0 ≡ x → None ≡ found x
+found-none x e = ap found e
+
+pub some-found : (x k : ℕ) → found x ≡ Some k → (x ≡ k) × (1 ≤ k)
+some-found zero k e = absurd (none-some k e)
+  where
+    none-some : (k : ℕ) → None ≡ Some k → ⊥
+    none-some k e = let z : ◌≡◌ {A = ℕ} 0 1 = cc in omega arith
+some-found (suc x) k e = let q : suc x ≡ k = cc in (q, omega (arith, q))
+
+pub none-found : (x : ℕ) → found x ≡ None → x ≡ 0
+none-found zero e = refl
+none-found (suc x) e = let z : ◌≡◌ {A = ℕ} 0 1 = cc in absurd (omega arith)
 
 module _ (test : ℕ → Bool) where
   pick : ℕ → Bool → ℕ → ℕ
@@ -47,20 +64,9 @@ module _ (test : ℕ → Bool) where
   pub first-zero : (n : ℕ) → first_or 0 test (numbers 1 n) ≡ 0 → (k : ℕ) → 1 ≤ k → k ≤ n → test k ≡ false
   first-zero n z k a b = none_from 1 n k (omega arith) z a (omega arith)
 
-  pub passed_start : (n : ℕ) → Passed test n 1
-  passed_start n = record { low = omega arith; inside = omega arith; none = λ j a b. absurd (omega arith) }
-
--- number k follows
-module _ {test : ℕ → Bool} {n k : ℕ} (p : Passed test n k) where
-  pub passed-next : k ≤ n → test k ≡ false → Passed test n (k + 1)
-  passed-next l e = record { low = omega arith; inside = omega arith; none = λ j a b. go j a b (ℕ_discrete j k) }
-    where
-      go : (j : ℕ) → 1 ≤ j → j < k + 1 → Dec (j ≡ k) → test j ≡ false
-      go j a b (yes q) = ap test q ∙ e
-      go j a b (no q) = p.none j a (omega arith)
-
-  pub passed_here : k ≤ n → test k ≡ true → k ≡ first_or 0 test (numbers 1 n)
-  passed_here l e = sym (first-at test 1 n k p.low (omega arith) p.none e)
-
-  pub passed-end : n < k → 0 ≡ first_or 0 test (numbers 1 n)
-  passed-end l = sym (first-none test 1 n (λ j a b. p.none j a (omega arith)))
+  -- a search from 1 on to the number before `end`: none passes, or `i` does and none before it
+  pub first-found : (n end : ℕ) (r : Option ℕ) → end ≡ n + 1
+      → MatchOption r ((k : ℕ) → 1 ≤ k → k < end → test k ≡ false) (λ i. (1 ≤ i) × (i < end) × (test i ≡ true) × ((k : ℕ) → 1 ≤ k → k < i → test k ≡ false))
+      → r ≡ found (first_or 0 test (numbers 1 n))
+  first-found n end None e h = found-none _ (sym (first-none 1 n (λ j a b. h j a (omega arith))))
+  first-found n end (Some i) e h = found-some i _ h.0 (sym (first-at 1 n i h.0 (omega arith) h.3 h.2))

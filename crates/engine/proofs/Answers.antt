@@ -1,23 +1,15 @@
--- What Impact and Total answer, by whether the file is accepted.
-use Prim.Native.Nat.{ℕ, ◌≤◌, ◌<◌}
-use mathlib.Core.Path.{◌≡◌, refl, sym, ap, ◌∙◌}
-use mathlib.Core.Logic.{◌⊎◌, inl, inr}
-use mathlib.Core.Bool.{Bool, true, false, ◌&&◌}
-use mathlib.Core.List.{List}
-use lib.ListN.{length}
-use lib.Dec.{leb}
+-- What a call answers of a file, by whether the file is accepted.
+use Rattle.std.specs.Prelude.{◌≡◌, ℕ, ◌≤◌, ◌<◌, ◌⊎◌, Bool, true, false, ◌&&◌, List, length, leb, Result, Ok, Err}
+use Rattle.std.proofs.Common.{refl, sym, ap, ◌∙◌, inl, inr}
 use borrow.Author.Tests.{le-leb, lt-leb}
-use Rattle.model.specs.Answer.{Answer, given, refused, refuse_number}
+use Rattle.model.specs.Answer.{Answer, given, refused, ◌>>=◌, says, refuse_number}
 use Rattle.model.specs.Network.{Network}
 use Rattle.model.specs.Outage.{impact, total, figure}
 use Rattle.model.specs.Rules.{accepted}
-use Rattle.model.specs.Calls.{impact_of, impact_answered, impact_says, totalled, total_says}
-use Rattle.model.specs.declared.CheckAnswer.{CheckAnswer}
-use Rattle.model.specs.declared.ImpactAnswer.{ImpactAnswer}
-use Rattle.model.specs.declared.TotalAnswer.{TotalAnswer}
-use Rattle.buffer.specs.Buffer.{network_in}
-use Rattle.loading.specs.Loading.{before, loaded}
-use Rattle.loading.proofs.Loads.{answered, same_answer}
+use Rattle.model.specs.Calls.{checked, impact_of, impact_answered, totalled}
+use Rattle.model.specs.declared.Refusal.{Refusal}
+use Rattle.loading.specs.declared.Loaded.{Loaded}
+use Rattle.loading.specs.Loading.{network_says}
 
 -- what Impact answers of an accepted network, by whether the number is a line's
 by-test : (N : Network) (l : ℕ) {inside : Bool} → (leb 1 l && leb l (length N.lines)) ≡ inside → impact_of l N ≡ (elim inside as (λ x. Answer ℕ) [ true ↦ given (impact N l) | false ↦ refuse_number ])
@@ -35,29 +27,44 @@ impact-outside : (N : Network) (l : ℕ) → (l < 1) ⊎ (length N.lines < l) �
 impact-outside N l (inl h) = by-test N l (λ i. lt-leb 1 l h i && leb l (length N.lines))
 impact-outside N l (inr h) = by-test N l (ap (λ x. leb 1 l && x) (lt-leb l (length N.lines) h) ∙ and-false (leb 1 l))
 
-module _ (file b : List ℕ) (r : CheckAnswer) (h : loaded r b ≡ accepted file) where
-  pub impact-refused : {n i : ℕ} (l : ℕ) → r ≡ CheckAnswer.Refused n i → impact_says (ImpactAnswer.Refused n i) ≡ impact_answered file l
-  unfolding impact_says impact_answered before
-  impact-refused l e = answered file b (λ N. impact_of l N) (CheckAnswer.Refused _ _) (same_answer file b r h e)
+module _ (file : List ℕ) where
+  -- a file that is refused is refused whatever comes next
+  pub refused-on : {A : Type 0} {n i : ℕ} (next : Network → Answer A) → refused n i ≡ accepted file → refused n i ≡ (accepted file >>= next)
+  refused-on next e = ap (λ a. a >>= next) e
 
-  pub total-refused : {n i : ℕ} → r ≡ CheckAnswer.Refused n i → total_says (TotalAnswer.Refused n i) ≡ totalled file
-  unfolding total_says totalled before
-  total-refused e = answered file b (λ N. given (record { total = total N; figure = figure N })) (CheckAnswer.Refused _ _) (same_answer file b r h e)
+  -- of one that is accepted, what comes next is answered
+  pub given-on : {A : Type 0} {N : Network} (next : Network → Answer A) → given N ≡ accepted file → next N ≡ (accepted file >>= next)
+  given-on next e = ap (λ a. a >>= next) e
 
-  module _ (e : r ≡ CheckAnswer.Accepted) where
-    then-impact : (l : ℕ) → impact_of l (network_in b) ≡ impact_answered file l
-    unfolding impact_answered before
-    then-impact l = answered file b (λ N. impact_of l N) CheckAnswer.Accepted (same_answer file b r h e)
+  pub check-refused : {n i : ℕ} → refused n i ≡ accepted file → refused n i ≡ checked file
+  unfolding checked
+  check-refused e = refused-on (λ N. given tt) e
 
-    pub impact-given : (l n : ℕ) → 1 ≤ l → l ≤ length (network_in b).lines → n ≡ impact (network_in b) l → impact_says (ImpactAnswer.Customers n) ≡ impact_answered file l
-    unfolding impact_says
-    impact-given l n low high i = ap (λ x. given x) i ∙ sym (impact-inside (network_in b) l low high) ∙ then-impact l
+  pub check-given : {N : Network} → given N ≡ accepted file → given tt ≡ checked file
+  unfolding checked
+  check-given e = given-on (λ N. given tt) e
 
-    pub impact-none : (l : ℕ) → (l < 1) ⊎ (length (network_in b).lines < l) → impact_says (ImpactAnswer.Refused 2 0) ≡ impact_answered file l
-    unfolding impact_says
-    impact-none l o = sym (impact-outside (network_in b) l o) ∙ then-impact l
+  pub impact-refused : {n i : ℕ} (l : ℕ) → refused n i ≡ accepted file → refused n i ≡ impact_answered file l
+  unfolding impact_answered
+  impact-refused l e = refused-on (impact_of l) e
 
-    pub total-given : (t g : ℕ) → t ≡ total (network_in b) → g ≡ figure (network_in b) → total_says (TotalAnswer.Outage t g) ≡ totalled file
-    unfolding total_says totalled before
-    total-given t g p q =
-        (λ i. given (record { total = p i; figure = q i })) ∙ answered file b (λ N. given (record { total = total N; figure = figure N })) CheckAnswer.Accepted (same_answer file b r h e)
+  pub impact-given : {N : Network} (l n : ℕ) → given N ≡ accepted file → 1 ≤ l → l ≤ length N.lines → n ≡ impact N l → given n ≡ impact_answered file l
+  unfolding impact_answered
+  impact-given {N} l n e low high i = ap (λ x. given x) i ∙ sym (impact-inside N l low high) ∙ given-on (impact_of l) e
+
+  pub impact-none : {N : Network} (l : ℕ) → given N ≡ accepted file → (l < 1) ⊎ (length N.lines < l) → refused 2 0 ≡ impact_answered file l
+  unfolding impact_answered
+  impact-none {N} l e o = sym (impact-outside N l o) ∙ given-on (impact_of l) e
+
+  pub total-refused : {n i : ℕ} → refused n i ≡ accepted file → refused n i ≡ totalled file
+  unfolding totalled
+  total-refused e = refused-on (λ N. given (record { total = total N; figure = figure N })) e
+
+  pub total-given : {N : Network} (t g : ℕ) → given N ≡ accepted file → t ≡ total N → g ≡ figure N → given (record { total = t; figure = g }) ≡ totalled file
+  unfolding totalled
+  total-given t g e p q = (λ i. given (record { total = p i; figure = q i })) ∙ given-on (λ N. given (record { total = total N; figure = figure N })) e
+
+  -- a file is checked by loading it
+  pub checked-is : (r : Result (Unit {0}) Refusal) (l : Loaded) → network_says r l ≡ accepted file → says r ≡ checked file
+  checked-is (Ok u) l e = check-given e
+  checked-is (Err r) l e = check-refused e

@@ -1,6 +1,5 @@
-pub mod Answers
-pub mod Found
-pub mod Calling
+mod Answers
+mod Calling
 pub mod Lending
-pub mod Reporting
-pub mod Tabling
+mod Reporting
+mod Tabling

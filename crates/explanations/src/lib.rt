@@ -1,67 +1,92 @@
 // Refusals in words, for the planner who wrote the file or gave the number.
 #![tactic(auto)]
 
-use model::Command;
+use file_parts::Announced;
+use model::{Command, Head, Refusal};
+use network::Network;
+use std::fmt;
 
 // That a number is no line's, and which are.
-fn put_line_number(line: u64, file: &[u8], out: &mut [u8], at: usize) -> usize {
-    let due = file_parts::due_at(file, 2);
-    let mut to = words::put(out, at, b"there is no line ");
-    to = words::put_number(out, to, line);
-    if due.lines == 0 {
-        return words::put(out, to, b"; the file has no lines.");
-    }
-    if due.lines == 1 {
-        return words::put(out, to, b"; the file's only line is 1.");
-    }
-    to = words::put(out, to, b"; the file's lines are 1 to ");
-    to = words::put_number(out, to, due.lines);
-    words::put(out, to, b".")
+#[derive(Clone, Copy)]
+struct NoLine {
+    line: u64,
+    lines: u64,
 }
 
-// Why a number that was given with a command is refused.
-fn put_number(command: Command, file: &[u8], out: &mut [u8], at: usize) -> usize {
-    match command {
-        Command::Impact(line) => put_line_number(line, file, out, at),
-        _ => words::put(out, at, b"PLACES is at most 64, and ADDITIONS at most 16."),
+impl fmt::Display for NoLine {
+    fn fmt<W: fmt::Write>(&self, f: &mut fmt::Formatter<W>) -> fmt::Result {
+        write!(f, "there is no line {}; the file", self.line)?;
+        match self.lines {
+            0 => f.write_str(" has no lines."),
+            1 => f.write_str("'s only line is 1."),
+            n => write!(f, "'s lines are 1 to {n}."),
+        }
     }
 }
 
-// Why a refusal was given to a command on a file.
-fn put_reason(
-    command: Command,
-    file: &[u8],
-    number: u64,
-    record: u64,
-    out: &mut [u8],
-    at: usize,
-) -> usize {
-    if number == 2 && record == 0 {
-        return put_number(command, file, out, at);
+// The record that a refusal names, if it names one.
+#[derive(Clone, Copy)]
+struct Place(u64);
+
+impl fmt::Display for Place {
+    fn fmt<W: fmt::Write>(&self, f: &mut fmt::Formatter<W>) -> fmt::Result {
+        match self.0 {
+            0 => Ok(()),
+            record => write!(f, ", record {record} (line {record} in an editor)"),
+        }
     }
-    if number <= 3 {
-        return record_words::explain_record(file, number, record, out, at);
-    }
-    network_words::explain_network(file, number, record, out, at)
 }
 
-// Which record a refusal names, if it names one.
-fn put_record(record: u64, out: &mut [u8], at: usize) -> usize {
-    if record == 0 {
-        return words::put(out, at, b": ");
-    }
-    let mut to = words::put(out, at, b", record ");
-    to = words::put_number(out, to, record);
-    to = words::put(out, to, b" (line ");
-    to = words::put_number(out, to, record);
-    words::put(out, to, b" in an editor): ")
+// Why a command is refused on a file, as one line.
+#[derive(Clone, Copy)]
+pub struct Explanation<'a> {
+    pub command: Command,
+    pub file: &'a [u8],
+    pub refusal: Refusal,
 }
 
-// The refusal of a command on a file in words, as one line at the start of a buffer; answers where it ends.
-pub fn explain(command: Command, file: &[u8], number: u64, record: u64, out: &mut [u8]) -> usize {
-    let mut to = words::put(out, 0, b"breakers: refusal ");
-    to = words::put_number(out, to, number);
-    to = put_record(record, out, to);
-    to = put_reason(command, file, number, record, out, to);
-    words::put(out, to, b"\n")
+impl Explanation<'_> {
+    // Why the number that was given with the command is refused.
+    fn write_number<W: fmt::Write>(&self, f: &mut fmt::Formatter<W>) -> fmt::Result {
+        match self.command {
+            Command::Impact(line) => {
+                let lines = Announced::by(self.file).lines;
+                write!(f, "{}", NoLine { line, lines })
+            }
+            _ => f.write_str("PLACES is at most 64, and ADDITIONS at most 16."),
+        }
+    }
+
+    // Why the network of the file is refused.
+    fn write_network<W: fmt::Write>(&self, f: &mut fmt::Formatter<W>) -> fmt::Result {
+        let mut network = Network::new(Head::default());
+        match reader::read(self.file, &mut network) {
+            Ok(()) => write!(f, "{}", network_words::explain(&network, self.refusal)),
+            Err(_) => f.write_str("the network breaks a rule of radial feeders."),
+        }
+    }
+
+    // Why the command is refused.
+    fn write_reason<W: fmt::Write>(&self, f: &mut fmt::Formatter<W>) -> fmt::Result {
+        match self.refusal {
+            Refusal::NoSuchNumber => self.write_number(f),
+            Refusal::TooLong
+            | Refusal::Malformed { .. }
+            | Refusal::OutOfRange { .. }
+            | Refusal::Misplaced { .. } => {
+                write!(f, "{}", record_words::explain(self.file, self.refusal))
+            }
+            _ => self.write_network(f),
+        }
+    }
+}
+
+impl fmt::Display for Explanation<'_> {
+    fn fmt<W: fmt::Write>(&self, f: &mut fmt::Formatter<W>) -> fmt::Result {
+        let number = self.refusal.number();
+        let place = Place(self.refusal.record());
+        write!(f, "breakers: refusal {number}{place}: ")?;
+        self.write_reason(f)?;
+        f.write_str("\n")
+    }
 }

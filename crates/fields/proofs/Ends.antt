@@ -1,22 +1,46 @@
--- Where a part ends, from a position on.
-use mathlib.Core.Path.{◌≡◌}
-use mathlib.Core.List.{List}
-use Prim.Native.Nat.{ℕ, suc, ◌+◌, ◌≤◌, ◌<◌}
-use native.Mathlib.Numerals.{add-one}
-use lib.ListN.{length, get_or, drop, drop_of_length-le}
-use lib.Seq.{drop-cons}
-use borrow.Author.Tests.{eq-eqb, ne_eqb}
+-- Where a part ends.
+use mathlib.Core.Path.{◌≡◌, refl, ap, ◌∙◌}
+use mathlib.Core.Bool.{Bool, true, false, cond, not}
+use mathlib.Core.List.{List, [], ◌∷◌}
+use Prim.Native.Nat.{ℕ, suc, ◌+◌, ◌≤◌}
+use native.Mathlib.Omega.{arith}
+use lib.Dec.{eqb, ltb}
+use lib.ListN.{length}
+use borrow.Author.Tests.{ltb-false}
+use Rattle.std.specs.Prelude.{Option, None, Some}
+use Rattle.std.specs.Option.{unwrap_or}
+use Rattle.std.specs.List.{position_or_len}
 use Rattle.fields.specs.Fields.{up_to}
 
-module _ (separator : ℕ) (s : List ℕ) (i : ℕ) where
-  pub at-separator : i < length s → get_or s i 0 ≡ separator → up_to separator (drop i s) ≡ 0
-  unfolding up_to
-  at-separator h e = rw (drop-cons s i 0 h, eq-eqb (get_or s i 0) separator e, up_to)
+pub up_to-position : (separator : ℕ) (bs : List ℕ) → position_or_len (λ b. eqb b separator) bs ≡ up_to separator bs
+unfolding up_to
+up_to-position separator [] = refl
+up_to-position separator (b ∷ bs) = go (eqb b separator) (up_to-position separator bs)
+  where
+    go : (t : Bool) → position_or_len (λ x. eqb x separator) bs ≡ up_to separator bs
+        → ◌≡◌ {A = ℕ} (cond (not t) (1 + position_or_len (λ x. eqb x separator) bs) 0) (elim t [ true ↦ 0 | false ↦ suc (up_to separator bs) ])
+    go true e = refl
+    go false e = omega (arith, e)
 
-  pub at_other : i < length s → (get_or s i 0 ≡ separator → ⊥) → up_to separator (drop i s) ≡ suc (up_to separator (drop (i + 1) s))
-  unfolding up_to
-  at_other h n = rw (add-one, drop-cons s i 0 h, ne_eqb (get_or s i 0) separator n, up_to)
+pub up_to-short : (separator : ℕ) (bs : List ℕ) → up_to separator bs ≤ length bs
+unfolding up_to
+up_to-short separator [] = omega arith
+up_to-short separator (b ∷ bs) = go (eqb b separator) (up_to-short separator bs)
+  where
+    go : (t : Bool) → up_to separator bs ≤ length bs → elim t as (λ x. ℕ) [ true ↦ 0 | false ↦ suc (up_to separator bs) ] ≤ length (b ∷ bs)
+    go true h = omega arith
+    go false h = omega arith
 
-  pub at-end : length s ≤ i → up_to separator (drop i s) ≡ 0
-  unfolding up_to
-  at-end h = rw (drop_of_length-le s {i = i} h)
+-- the position that a search gives, or else the length
+pub found-or-length : (separator : ℕ) (bs : List ℕ) (r : Option ℕ)
+    → r ≡ cond (ltb (position_or_len (λ b. eqb b separator) bs) (length bs)) (Some (position_or_len (λ b. eqb b separator) bs)) None
+    → unwrap_or r (length bs) ≡ up_to separator bs
+found-or-length separator bs r e =
+    ap (λ (o : Option ℕ). unwrap_or o (length bs)) e
+    ∙ go (ltb (position_or_len (λ b. eqb b separator) bs) (length bs)) refl
+    ∙ up_to-position separator bs
+  where
+    go : (t : Bool) → ltb (position_or_len (λ b. eqb b separator) bs) (length bs) ≡ t
+        → unwrap_or (cond t (Some (position_or_len (λ b. eqb b separator) bs)) None) (length bs) ≡ position_or_len (λ b. eqb b separator) bs
+    go true q = refl
+    go false q = omega (arith, ltb-false _ _ q, up_to-position separator bs, up_to-short separator bs)

@@ -1,14 +1,8 @@
 -- What comes from a read.
-use Rattle.std.specs.Prelude.{ℕ, ◌≤◌, min, Result, Ok, Err}
+use Rattle.std.specs.Prelude.{ℕ, min, Result, Ok, Err}
 use Rattle.std.specs.declared.io.Error.{Error}
-use Rattle.input.specs.declared.Input.{Input}
 
--- at most so many bytes came
-abbrev pub Within : ℕ → Input → Type 0
-Within most (Input.Bytes n) = n ≤ most
-Within most (Input.Failed e) = Unit {0}
-
--- what a read into a buffer of `room` bytes says: that it failed, and why, else how many bytes came
-abbrev pub input_of : Result ℕ Error → ℕ → Input
-input_of (Ok n) room = Input.Bytes (min n room)
-input_of (Err e) room = Input.Failed e
+-- what a read into a buffer of `room` bytes says: how many bytes came, or that it failed, and why
+abbrev pub within_room : Result ℕ Error → ℕ → Result ℕ Error
+within_room (Ok n) room = Ok (min n room)
+within_room (Err e) room = Err e

@@ -1,18 +1,11 @@
 // Reading a network file to its end.
 #![tactic(auto)]
 
-ghost use Rattle.std.specs.Prelude.{◌≡◌, length};
-ghost use Rattle.input.specs.Reading.{Within, input_of};
+ghost use Rattle.std.specs.Prelude.{◌≡◌, ◌≤◌, IfOk, length};
+ghost use Rattle.input.specs.Reading.{within_room};
 
 use std::io;
 use std::io::Read;
-
-// What was read: so many bytes, or a read that failed, and why.
-#[derive(Clone, Copy)]
-pub enum Input {
-    Bytes(usize),
-    Failed(io::Error),
-}
 
 // Room for a file and one byte more, so that a file that is too long is seen to be.
 pub fn space() -> [u8; 32769]
@@ -21,39 +14,35 @@ pub fn space() -> [u8; 32769]
     [0; 32769]
 }
 
-// What one read into a buffer says: that it failed, else how many bytes came.
-fn input_of(got: io::Result<usize>, buf: &[u8]) -> Input
-    ensures { result ≡ input_of got (length buf.now) }
+// What one read into a buffer of so many bytes says: how many bytes came, or that it failed, and why.
+fn within_room(got: io::Result<usize>, room: usize) -> io::Result<usize>
+    ensures { result ≡ within_room got room }
 {
     match got {
-        Err(e) => Input::Failed(e),
-        Ok(n) => Input::Bytes(n.min(buf.len())),
+        Ok(n) => Ok(n.min(room)),
+        Err(e) => Err(e),
     }
 }
 
 // One read into a buffer: no bytes where the input ends.
-fn read_some<R: Read>(from: &mut R, buf: &mut [u8]) -> Input
-    ensures { Within (length buf.old) result }
+fn read_some<R: Read>(from: &mut R, buf: &mut [u8]) -> io::Result<usize>
+    ensures { IfOk result (λ n. n ≤ length buf.old) }
 {
     let got = from.read(buf);
-    input_of(got, buf)
+    within_room(got, buf.len())
 }
 
-// Reads to the end of the input, or until the buffer is full. The bytes stand at the start of the buffer.
-pub fn read<R: Read>(from: &mut R, buf: &mut [u8]) -> Input
-    ensures { Within (length buf.old) result }
+// Reads to the end of the input, or until the buffer is full. The bytes stand at the start of the buffer; answers how many.
+pub fn read<R: Read>(from: &mut R, buf: &mut [u8]) -> io::Result<usize>
+    ensures { IfOk result (λ n. n ≤ length buf.old) }
 {
     let mut at: usize = 0;
     while at < buf.len() {
-        match read_some(from, &mut buf[at..]) {
-            Input::Failed(e) => return Input::Failed(e),
-            Input::Bytes(n) => {
-                if n == 0 {
-                    return Input::Bytes(at);
-                }
-                at += n;
-            }
+        let n = read_some(from, &mut buf[at..])?;
+        if n == 0 {
+            return Ok(at);
         }
+        at += n;
     }
-    Input::Bytes(at)
+    Ok(at)
 }

@@ -1,191 +1,182 @@
-// Kinds of record in words: their forms, and which kind is due where. Kinds are 0 to 3 for N, S, L and P.
+// Kinds of record in words: their forms, and which kind is due where.
 #![tactic(auto)]
 
-ghost use Rattle.std.specs.Prelude.{◌≤◌};
+ghost use Rattle.std.specs.Prelude.{◌≡◌, IfSome};
+ghost use Rattle.ranges.specs.Kinds.{kind_of};
+
+use file_parts::Announced;
+use ranges::Kind;
+use std::cmp::Ordering;
+use std::fmt;
 
 // The form of a record of a kind.
-pub fn put_form(out: &mut [u8], at: usize, kind: usize) -> usize {
-    if kind == 0 {
-        return words::put(
-            out,
-            at,
-            b"N,stations,lines,minutes,series,adds,money,hours,visits",
-        );
+pub fn form(kind: Kind) -> &'static str {
+    match kind {
+        Kind::Head => "N,stations,lines,minutes,series,adds,money,hours,visits",
+        Kind::Station => "S,role,customers",
+        Kind::Line => "L,weight,from,to,state1,state2",
+        Kind::Place => "P,line,end,cost,hours",
     }
-    if kind == 1 {
-        return words::put(out, at, b"S,role,customers");
-    }
-    if kind == 2 {
-        return words::put(out, at, b"L,weight,from,to,state1,state2");
-    }
-    words::put(out, at, b"P,line,end,cost,hours")
 }
 
-// The letter of a kind.
-pub fn letter_of(kind: usize) -> u8 {
-    let mut letter = [0u8; 1];
-    put_form(&mut letter, 0, kind);
-    letter[0]
-}
-
-// How many fields a record of a kind has behind its letter.
-pub fn width_of(kind: usize) -> u64 {
-    let mut form = [0u8; 64];
-    put_form(&mut form, 0, kind);
-    file_parts::field_count(&form)
-}
-
-// The kind that a letter stands for; 4 if it stands for none.
-pub fn kind_of(letter: u8) -> usize {
-    if letter == b'N' {
-        0
-    } else if letter == b'S' {
-        1
-    } else if letter == b'L' {
-        2
-    } else if letter == b'P' {
-        3
-    } else {
-        4
-    }
+// The kind that a letter stands for.
+pub fn kind_of(letter: u8) -> Option<Kind>
+    ensures { IfSome result (λ kind. (kind_of kind).letter ≡ letter) }
+{
+    [Kind::Head, Kind::Station, Kind::Line, Kind::Place]
+        .into_iter()
+        .find(|kind| kind.letter() == letter)
 }
 
 // So many of something, as "7 stations".
-pub fn put_count(out: &mut [u8], at: usize, n: u64, name: &[u8]) -> usize {
-    let mut to = words::put_number(out, at, n);
-    to = words::put(out, to, b" ");
-    to = words::put(out, to, name);
-    if n == 1 {
-        return to;
+#[derive(Clone, Copy, Debug, PartialEq, Eq)]
+pub struct Count<'a>(pub u64, pub &'a str);
+
+impl fmt::Display for Count<'_> {
+    fn fmt<W: fmt::Write>(&self, f: &mut fmt::Formatter<W>) -> fmt::Result {
+        let Count(n, name) = *self;
+        let ending = if n == 1 { "" } else { "s" };
+        write!(f, "{n} {name}{ending}")
     }
-    words::put(out, to, b"s")
 }
 
-// The records from `first` to `last`, between parentheses.
-fn put_records(out: &mut [u8], at: usize, first: u64, last: u64) -> usize {
-    if first == last {
-        let to = words::put(out, at, b" (record ");
-        let end = words::put_number(out, to, last);
-        return words::put(out, end, b")");
-    }
-    let mut to = words::put(out, at, b" (records ");
-    to = words::put_number(out, to, first);
-    to = words::put(out, to, b" to ");
-    to = words::put_number(out, to, last);
-    words::put(out, to, b")")
+// The records from `first` to `last` between parentheses; nothing if there are none.
+#[derive(Clone, Copy)]
+struct Records {
+    first: u64,
+    last: u64,
 }
 
-// So many records of a kind and which ones, from record `first` on, as "7 stations (records 2 to 8)".
-fn put_group(out: &mut [u8], at: usize, n: u64, name: &[u8], first: u64) -> usize
-    requires { (n ≤ 768) × (first ≤ 770) }
-{
-    let to = put_count(out, at, n, name);
-    if n == 0 {
-        return to;
+impl fmt::Display for Records {
+    fn fmt<W: fmt::Write>(&self, f: &mut fmt::Formatter<W>) -> fmt::Result {
+        let Records { first, last } = *self;
+        match first.cmp(&last) {
+            Ordering::Less => write!(f, " (records {first} to {last})"),
+            Ordering::Equal => write!(f, " (record {last})"),
+            Ordering::Greater => Ok(()),
+        }
     }
-    put_records(out, to, first, first + n - 1)
 }
 
-// What record 1 announces.
-pub fn put_announced(out: &mut [u8], at: usize, file: &[u8]) -> usize {
-    let due = file_parts::due_at(file, 1);
-    let stations = due.stations;
-    let lines = due.lines;
-    let mut to = words::put(out, at, b"record 1 announces ");
-    to = put_group(out, to, stations, b"station", 2);
-    to = words::put(out, to, b" and ");
-    put_group(out, to, lines, b"line", 2 + stations)
+// What record 1 announces, as "record 1 announces 7 stations (records 2 to 8) and 1 line (record 9)".
+#[derive(Clone, Copy, Debug, PartialEq, Eq)]
+pub struct Announcement(pub Announced);
+
+impl fmt::Display for Announcement {
+    fn fmt<W: fmt::Write>(&self, f: &mut fmt::Formatter<W>) -> fmt::Result {
+        let Announced { stations, lines } = self.0;
+        let of_stations = Records {
+            first: 2,
+            last: 1 + stations,
+        };
+        let of_lines = Records {
+            first: 2 + stations,
+            last: 1 + stations + lines,
+        };
+        let stations = Count(stations, "station");
+        let lines = Count(lines, "line");
+        write!(
+            f,
+            "record 1 announces {stations}{of_stations} and {lines}{of_lines}"
+        )
+    }
 }
 
-// Which of `n` records of a kind it is, behind `before` others, as "2 of 3".
-fn put_which(out: &mut [u8], at: usize, record: u64, before: u64, n: u64) -> usize {
-    if record < before {
-        return at;
-    }
-    let mut to = words::put_number(out, at, record - before);
-    to = words::put(out, to, b" of ");
-    words::put_number(out, to, n)
+// What is due at a record: the head of the file, the station or line with a number of so many, or a place.
+#[derive(Clone, Copy, Debug, PartialEq, Eq)]
+pub enum Due {
+    Head,
+    Station { number: u64, of: u64 },
+    Line { number: u64, of: u64 },
+    Place,
 }
 
-// What is due at a record, as "line 2 of 3".
-fn put_wanted(out: &mut [u8], at: usize, file: &[u8], record: u64) -> usize {
-    let due = file_parts::due_at(file, record);
-    let kind = due.kind;
-    let stations = due.stations;
-    let lines = due.lines;
-    if kind == 1 {
-        let to = words::put(out, at, b"station ");
-        return put_which(out, to, record, 1, stations);
+impl Due {
+    // What is due at a record of a file, by what its record 1 announces.
+    pub fn at(record: u64, announced: Announced) -> Due {
+        let Announced { stations, lines } = announced;
+        if record < 2 {
+            Due::Head
+        } else if record < 2 + stations {
+            Due::Station {
+                number: record - 1,
+                of: stations,
+            }
+        } else if record < announced.first_place() {
+            Due::Line {
+                number: record - 1 - stations,
+                of: lines,
+            }
+        } else {
+            Due::Place
+        }
     }
-    if kind == 2 {
-        let to = words::put(out, at, b"line ");
-        return put_which(out, to, record, 1 + stations, lines);
+
+    // The kind of record that is due.
+    pub fn kind(self) -> Kind {
+        match self {
+            Due::Head => Kind::Head,
+            Due::Station { .. } => Kind::Station,
+            Due::Line { .. } => Kind::Line,
+            Due::Place => Kind::Place,
+        }
     }
-    if kind == 3 {
-        return words::put(out, at, b"the end of the file or a place");
-    }
-    words::put(out, at, b"the head of the file")
 }
 
-// What is due at a record, with its form.
-pub fn put_due(out: &mut [u8], at: usize, file: &[u8], record: u64) -> usize {
-    let mut to = put_wanted(out, at, file, record);
-    to = words::put(out, to, b" (");
-    let due = file_parts::due_at(file, record);
-    to = put_form(out, to, due.kind);
-    words::put(out, to, b")")
+// What is due, with its form, as "line 2 of 3 (L,weight,from,to,state1,state2)".
+impl fmt::Display for Due {
+    fn fmt<W: fmt::Write>(&self, f: &mut fmt::Formatter<W>) -> fmt::Result {
+        match *self {
+            Due::Head => f.write_str("the head of the file")?,
+            Due::Station { number, of } => write!(f, "station {number} of {of}")?,
+            Due::Line { number, of } => write!(f, "line {number} of {of}")?,
+            Due::Place => f.write_str("the end of the file or a place")?,
+        }
+        write!(f, " ({})", form(self.kind()))
+    }
 }
 
-// What is wrong where a record of kind `there` stands and one of kind `due` is due.
-fn put_balance(out: &mut [u8], at: usize, there: usize, due: usize) -> usize {
-    if there == 0 {
-        return words::put(out, at, b"A file has one N record, its first.");
-    }
-    if due == 1 {
-        return words::put(
-            out,
-            at,
-            b"A station is missing before it, or record 1 announces too many.",
-        );
-    }
-    if there == 1 {
-        return words::put(
-            out,
-            at,
-            b"There is a station too many, or record 1 announces too few.",
-        );
-    }
-    if due == 2 {
-        return words::put(
-            out,
-            at,
-            b"A line is missing before it, or record 1 announces too many.",
-        );
-    }
-    words::put(
-        out,
-        at,
-        b"There is a line too many, or record 1 announces too few.",
-    )
+// A record of another kind than the one that is due.
+#[derive(Clone, Copy, Debug, PartialEq, Eq)]
+pub struct WrongKind {
+    pub there: Kind,
+    pub due: Due,
+    pub announced: Announced,
 }
 
-// What record 1 announces, and what is wrong where a record of kind `there` stands and one of kind `due` is due.
-fn put_reason(out: &mut [u8], at: usize, file: &[u8], there: usize, due: usize) -> usize {
-    if due == 0 {
-        return words::put(out, at, b", which comes first.");
+impl WrongKind {
+    // What is too many or too few.
+    fn balance(self) -> &'static str {
+        match (self.there, self.due) {
+            (Kind::Head, _) => "A file has one N record, its first.",
+            (_, Due::Station { .. }) => {
+                "A station is missing before it, or record 1 announces too many."
+            }
+            (Kind::Station, _) => "There is a station too many, or record 1 announces too few.",
+            (_, Due::Line { .. }) => {
+                "A line is missing before it, or record 1 announces too many."
+            }
+            _ => "There is a line too many, or record 1 announces too few.",
+        }
     }
-    let mut to = words::put(out, at, b", since ");
-    to = put_announced(out, to, file);
-    to = words::put(out, to, b". ");
-    put_balance(out, to, there, due)
 }
 
-// Says that a record of kind `there` stands where another kind is due.
-pub fn explain_kind(file: &[u8], record: u64, there: usize, out: &mut [u8], at: usize) -> usize {
-    let mut to = words::put(out, at, b"the record begins with ");
-    to = words::put(out, to, &[letter_of(there)]);
-    to = words::put(out, to, b", but due here is ");
-    to = put_due(out, to, file, record);
-    let due = file_parts::due_at(file, record);
-    put_reason(out, to, file, there, due.kind)
+impl fmt::Display for WrongKind {
+    fn fmt<W: fmt::Write>(&self, f: &mut fmt::Formatter<W>) -> fmt::Result {
+        let letter = self.there.letter() as char;
+        write!(
+            f,
+            "the record begins with {letter}, but due here is {}",
+            self.due
+        )?;
+        match self.due {
+            Due::Head => f.write_str(", which comes first."),
+            _ => write!(
+                f,
+                ", since {}. {}",
+                Announcement(self.announced),
+                self.balance()
+            ),
+        }
+    }
 }

@@ -1,2 +1,2 @@
-pub mod Turns
-pub mod Loads
+mod Turns
+mod Loads

@@ -1,22 +1,22 @@
 -- The rules in turn: which refusal is given, by the first line or station that breaks a rule (0 where none does).
 use Prim.Native.Nat.{ℕ, zero, suc, ◌+◌, ◌≤◌}
 use mathlib.Core.Path.{◌≡◌, refl, sym, ap, ◌∙◌}
-use mathlib.Core.List.{List}
 use mathlib.Core.Bool.{Bool, true, false, not}
 use native.Mathlib.Omega.{arith}
 use lib.ListN.{length}
 use borrow.Author.Tests.{not-false}
 use Rattle.model.specs.Lists.{first_or, numbers}
-use Rattle.model.specs.Answer.{Answer, given, refused, refuse_open_line, refuse_plain_at_hv, refuse_return, refuse_joined, refuse_unsupplied, refuse_series}
+use Rattle.model.specs.Answer.{Answer, given, refused, refusal_number, refusal_record, refuse_open_line, refuse_plain_at_hv, refuse_return, refuse_joined, refuse_unsupplied, refuse_series}
 use Rattle.model.specs.Network.{Network}
 use Rattle.model.specs.Paths.{station_numbers, line_numbers}
 use Rattle.model.specs.Rules.{both_open, unprotected, some_path_returns, some_joined, is_supplied, series_broken, unless, unless_some, station_record, line_record, radial}
 use Rattle.theory.specs.Reading.{Read}
 use Rattle.theory.specs.Radial.{Rules}
-use Rattle.end_rules.specs.First.{first-zero}
-use Rattle.model.specs.declared.CheckAnswer.{CheckAnswer}
-use Rattle.buffer.specs.Buffer.{network_in}
-use Rattle.loading.specs.Loading.{forest, before, loaded, radial-is}
+use Rattle.end_rules.specs.First.{found, some-found, none-found, first-zero}
+use Rattle.std.specs.Prelude.{Some, None, Result, Ok, Err, OnOk}
+use Rattle.model.specs.declared.Refusal.{Refusal}
+use Rattle.model.specs.declared.Refusal.TheVariants.{OpenLine, PlainAtHv, Ring, Joined, Unsupplied}
+use Rattle.loading.specs.Loading.{forest, before, radial-is}
 
 module _ (test : ℕ → Bool) (refuse : ℕ → Answer Network) (next : Answer Network) where
   -- what stands behind the first number, by its test
@@ -95,14 +95,14 @@ module _ (N : Network) where
 
   -- in a file that is read they are small
   module _ (d : Read N) where
-    pub open-small : {l : ℕ} → l ≡ open_line → l ≤ 769
-    open-small e = omega (arith, e, open_line-most, d.line_count, d.head.lines.high)
+    pub open-small : {l : ℕ} → Some l ≡ found open_line → l ≤ 769
+    open-small e = omega (arith, some-found open_line _ (sym e), open_line-most, d.line_count, d.head.lines.high)
 
-    pub plain-small : {l : ℕ} → l ≡ plain_line → l ≤ 769
-    plain-small e = omega (arith, e, plain_line-most, d.line_count, d.head.lines.high)
+    pub plain-small : {l : ℕ} → Some l ≡ found plain_line → l ≤ 769
+    plain-small e = omega (arith, some-found plain_line _ (sym e), plain_line-most, d.line_count, d.head.lines.high)
 
-    pub unsupplied-small : {s : ℕ} → s ≡ unsupplied_station → s ≤ 513
-    unsupplied-small e = omega (arith, e, unsupplied_station-most, d.station_count, d.head.stations.high)
+    pub unsupplied-small : {s : ℕ} → Some s ≡ found unsupplied_station → s ≤ 513
+    unsupplied-small e = omega (arith, some-found unsupplied_station _ (sym e), unsupplied_station-most, d.station_count, d.head.stations.high)
 
   module _ (next : Answer Network) where
     pub refused-4 : 1 ≤ open_line → refused 4 (1 + length N.stations + open_line) ≡ forest N next
@@ -157,68 +157,68 @@ module _ (N : Network) where
     supplied = λ s a b. not-false (is_supplied N s) (first-zero (λ s. not (is_supplied N s)) (length N.stations) z8 s a b);
   }
 
--- what an answer of the rules 4 to 8 is to say: it stands before any other, and all rules hold where the file is accepted
-abbrev pub Says : Network → CheckAnswer → Type 0
-Says N r = ((next : Answer Network) → before r next ≡ forest N next) × (r ≡ CheckAnswer.Accepted → Rules N)
+-- what an answer of the rules 4 to 8 is to say: it stands before any other, and all rules hold where nothing is refused
+abbrev pub Says : Network → Result (Unit {0}) Refusal → Type 0
+Says N r = ((next : Answer Network) → before r next ≡ forest N next) × OnOk r (Rules N)
 
-pub not-accepted : {n i : ℕ} {A : Type 0} → CheckAnswer.Refused n i ≡ CheckAnswer.Accepted → A
-not-accepted e = let z : ◌≡◌ {A = ℕ} 0 1 = cc in absurd (omega arith)
+module _ (N : Network) where
+  pub says-4 : {k place : ℕ} → Some k ≡ found (open_line N) → place ≡ line_record N k → Says N (Err (OpenLine place))
+  says-4 o r =
+      let f = some-found (open_line N) _ (sym o) in (
+        (λ next. (λ i. refused 4 (r i)) ∙ (λ i. refused 4 (line_record N (sym f.0 i))) ∙ refused-4 N next (omega (arith, f))),
+        tt,
+      )
 
-refusal-says : (N : Network) (n i : ℕ) → ((next : Answer Network) → refused n i ≡ forest N next) → Says N (CheckAnswer.Refused n i)
-unfolding before
-refusal-says N n i h = (h, not-accepted)
+  module _ (o : None ≡ found (open_line N)) where
+    z4 : open_line N ≡ 0
+    z4 = none-found (open_line N) (sym o)
 
-module _ (N : Network) (opened : ℕ) (o : opened ≡ open_line N) where
-  pub says-4 : {place : ℕ} → place ≡ line_record N opened → (opened ≡ 0 → ⊥) → Says N (CheckAnswer.Refused 4 place)
-  says-4 r h = refusal-says N 4 _ (λ next. (λ i. refused 4 (r i)) ∙ (λ i. refused 4 (line_record N (o i))) ∙ refused-4 N next (omega arith))
+    pub says-5 : {k place : ℕ} → Some k ≡ found (plain_line N) → place ≡ line_record N k → Says N (Err (PlainAtHv place))
+    says-5 p r =
+        let f = some-found (plain_line N) _ (sym p) in (
+          (λ next. (λ i. refused 5 (r i)) ∙ (λ i. refused 5 (line_record N (sym f.0 i))) ∙ refused-5 N next z4 (omega (arith, f))),
+          tt,
+        )
 
-  module _ (z4 : opened ≡ 0) (plain : ℕ) (p : plain ≡ plain_line N) where
-    pub says-5 : {place : ℕ} → place ≡ line_record N plain → (plain ≡ 0 → ⊥) → Says N (CheckAnswer.Refused 5 place)
-    says-5 r h = refusal-says N 5 _ (λ next. (λ i. refused 5 (r i)) ∙ (λ i. refused 5 (line_record N (p i))) ∙ refused-5 N next (sym o ∙ z4) (omega arith))
+    module _ (p : None ≡ found (plain_line N)) where
+      z5 : plain_line N ≡ 0
+      z5 = none-found (plain_line N) (sym p)
 
-    module _ (z5 : plain ≡ 0) where
-      pub says-6 : some_path_returns N ≡ true → Says N (CheckAnswer.Refused 6 0)
-      says-6 e = refusal-says N 6 0 (λ next. refused-6 N next (sym o ∙ z4) (sym p ∙ z5) e)
+      pub says-6 : some_path_returns N ≡ true → Says N (Err Ring)
+      says-6 e = ((λ next. refused-6 N next z4 z5 e), tt)
 
       module _ (z6 : some_path_returns N ≡ false) where
-        pub says-7 : some_joined N ≡ true → Says N (CheckAnswer.Refused 7 0)
-        says-7 e = refusal-says N 7 0 (λ next. refused-7 N next (sym o ∙ z4) (sym p ∙ z5) z6 e)
+        pub says-7 : some_joined N ≡ true → Says N (Err Joined)
+        says-7 e = ((λ next. refused-7 N next z4 z5 z6 e), tt)
 
-        module _ (z7 : some_joined N ≡ false) (lowest : ℕ) (u : lowest ≡ unsupplied_station N) where
-          pub says-8 : {place : ℕ} → place ≡ station_record lowest → (lowest ≡ 0 → ⊥) → Says N (CheckAnswer.Refused 8 place)
-          says-8 r h = refusal-says N 8 _ (λ next. (λ i. refused 8 (r i)) ∙ (λ i. refused 8 (station_record (u i))) ∙ refused-8 N next (sym o ∙ z4) (sym p ∙ z5) z6 z7 (omega arith))
+        module _ (z7 : some_joined N ≡ false) where
+          pub says-8 : {k place : ℕ} → Some k ≡ found (unsupplied_station N) → place ≡ station_record k → Says N (Err (Unsupplied place))
+          says-8 u r =
+              let f = some-found (unsupplied_station N) _ (sym u) in (
+                (λ next. (λ i. refused 8 (r i)) ∙ (λ i. refused 8 (station_record (sym f.0 i))) ∙ refused-8 N next z4 z5 z6 z7 (omega (arith, f))),
+                tt,
+              )
 
-          pub says-accepted : lowest ≡ 0 → Says N CheckAnswer.Accepted
-          unfolding before
-          says-accepted z8 = (
-            (λ next. none-broken N next (sym o ∙ z4) (sym p ∙ z5) z6 z7 (sym u ∙ z8)),
-            (λ e. rules-hold N (sym o ∙ z4) (sym p ∙ z5) z6 z7 (sym u ∙ z8)),
-          )
+          pub says-ok : None ≡ found (unsupplied_station N) → Says N (Ok tt)
+          says-ok u =
+              let z8 = none-found (unsupplied_station N) (sym u) in
+              ((λ next. none-broken N next z4 z5 z6 z7 z8), rules-hold N z4 z5 z6 z7 z8)
 
 -- the answer of all rules, by that of the rules 4 to 8 and the series rule
-module _ (b : List ℕ) (r : CheckAnswer) (s : Says (network_in b) r) where
+module _ (N : Network) where
   -- the series rule, the last
   abbrev last : Answer Network
-  last = unless (series_broken (network_in b)) refuse_series (given (network_in b))
+  last = unless (series_broken N) refuse_series (given N)
 
-  pub rules-refused : {n i : ℕ} {A : Type 0} → r ≡ CheckAnswer.Refused n i
-      → (loaded (CheckAnswer.Refused n i) b ≡ radial (network_in b)) × (CheckAnswer.Refused n i ≡ CheckAnswer.Accepted → A)
-  unfolding loaded
-  rules-refused e = ((λ i. before (sym e i) last) ∙ s.0 last ∙ sym (radial-is (network_in b)), not-accepted)
+  pub rules-refused : (r : Refusal) → ((next : Answer Network) → before (Err r) next ≡ forest N next) → refused (refusal_number r) (refusal_record r) ≡ radial N
+  rules-refused r s = s last ∙ sym (radial-is N)
 
-  module _ (e : r ≡ CheckAnswer.Accepted) where
-    pub forest-held : Rules (network_in b)
-    forest-held = s.1 e
+  module _ (s : (next : Answer Network) → before (Ok tt) next ≡ forest N next) where
+    last-rule : last ≡ radial N
+    last-rule = s last ∙ sym (radial-is N)
 
-    last-rule : last ≡ radial (network_in b)
-    unfolding before
-    last-rule = (λ i. before (sym e i) last) ∙ s.0 last ∙ sym (radial-is (network_in b))
+    pub series-refused : series_broken N ≡ true → refuse_series ≡ radial N
+    series-refused t = sym (unless-true refuse_series _ t) ∙ last-rule
 
-    pub series-refused : {A : Type 0} → series_broken (network_in b) ≡ true
-        → (loaded (CheckAnswer.Refused 9 0) b ≡ radial (network_in b)) × (CheckAnswer.Refused 9 0 ≡ CheckAnswer.Accepted → A)
-    unfolding loaded before
-    series-refused t = (sym (unless-true refuse_series _ t) ∙ last-rule, not-accepted)
-
-    pub series-held : series_broken (network_in b) ≡ false → loaded CheckAnswer.Accepted b ≡ radial (network_in b)
-    unfolding loaded before
+    pub series-held : series_broken N ≡ false → given N ≡ radial N
     series-held f = sym (unless-false refuse_series _ f) ∙ last-rule

@@ -1,11 +1,12 @@
 -- What loading a file answers: the rules 4 to 8 in turn, and the network of an accepted file in the buffer.
-use Rattle.std.specs.Prelude.{ℕ, ◌≡◌, refl, not, List}
-use Rattle.model.specs.Answer.{Answer, given, refused, refuse_open_line, refuse_plain_at_hv, refuse_return, refuse_joined, refuse_unsupplied, refuse_series}
+use Rattle.std.specs.Prelude.{ℕ, ◌≡◌, refl, not, List, Result, Ok, Err}
+use Rattle.model.specs.Answer.{Answer, given, refused, refusal_number, refusal_record, refuse_open_line, refuse_plain_at_hv, refuse_return, refuse_joined, refuse_unsupplied, refuse_series}
 use Rattle.model.specs.Network.{Network}
 use Rattle.model.specs.Paths.{station_numbers, line_numbers}
 use Rattle.model.specs.Rules.{both_open, unprotected, some_path_returns, some_joined, is_supplied, series_broken, unless, unless_some, station_record, line_record, radial}
-use Rattle.model.specs.declared.CheckAnswer.{CheckAnswer}
-use Rattle.buffer.specs.Buffer.{network_in}
+use Rattle.model.specs.declared.Refusal.{Refusal}
+use Rattle.theory.specs.Best.{Accepted}
+use Rattle.loading.specs.declared.Loaded.{Loaded}
 use Rattle.tree.specs.Linked.{Linked}
 use Rattle.tree.specs.Outwards.{Outwards}
 use Rattle.paths.specs.Held.{HoldsTrips, HoldsCounts}
@@ -26,14 +27,14 @@ unfolding radial forest
 radial-is N = refl
 
 -- an answer before `next`: a refusal, or what `next` answers
-unfoldable pub before : {A : Type 0} → CheckAnswer → Answer A → Answer A
-before CheckAnswer.Accepted next = next
-before (CheckAnswer.Refused number place) next = refused number place
+abbrev pub before : {A : Type 0} → Result (Unit {0}) Refusal → Answer A → Answer A
+before (Ok u) next = next
+before (Err r) next = refused (refusal_number r) (refusal_record r)
 
--- an answer, with the network in a buffer
-unfoldable pub loaded : CheckAnswer → List ℕ → Answer Network
-unfolding before network_in
-loaded answer b = before answer (given (network_in b))
+-- the network of a loaded file, or its refusal
+abbrev pub network_says : Result (Unit {0}) Refusal → Loaded → Answer Network
+network_says (Ok u) l = given l.network
+network_says (Err r) l = refused (refusal_number r) (refusal_record r)
 
 -- what is prepared of an accepted network
 pub record Prepared (N : Network) (chains nexts sides feeders order trips counts : List ℕ) : Type 0 where
@@ -41,3 +42,11 @@ pub record Prepared (N : Network) (chains nexts sides feeders order trips counts
   pub outwards : Outwards N sides feeders order
   pub tripping : HoldsTrips N trips
   pub counted : HoldsCounts N counts
+
+abbrev pub IsPrepared : Loaded → Type 0
+IsPrepared l = Prepared l.network l.chains l.nexts l.sides l.feeders l.order l.trips l.counts
+
+-- what is loaded is an accepted network, and what is prepared of it
+pub record IsLoaded (l : Loaded) : Type 0 where
+  pub accepted : Accepted l.network
+  pub prepared : IsPrepared l

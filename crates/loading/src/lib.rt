@@ -1,183 +1,150 @@
 // A file loaded: read and held to the rules, with the lines from the HV stations outwards and the breakers on their paths.
 #![tactic(auto)]
 
-ghost use Rattle.std.specs.Prelude.{◌≡◌, ◌≤◌};
+ghost use Rattle.std.specs.Prelude.{◌≡◌, ◌≤◌, OnOk};
 ghost use Rattle.model.specs.Answer.{Answer};
 ghost use Rattle.model.specs.Network.{Network};
 ghost use Rattle.theory.specs.Reading.{Read};
 ghost use Rattle.theory.specs.Radial.{Rules};
-ghost use Rattle.buffer.specs.Buffer.{network_in};
 ghost use Rattle.model.specs.Rules.{station_record, line_record, radial, accepted};
-ghost use Rattle.theory.specs.Best.{Accepted};
-ghost use Rattle.outage.specs.Held.{HoldsImpacts};
-ghost use Rattle.tree.specs.Linked.{Linked};
-ghost use Rattle.paths.specs.Held.{HoldsTrips};
-ghost use Rattle.loading.specs.Loading.{forest, before, loaded, Prepared};
+ghost use Rattle.outage.specs.Held.{HoldsCustomers, HoldsImpacts};
+ghost use Rattle.loading.specs.Loading.{forest, before, network_says, IsPrepared, IsLoaded};
 
-use model::CheckAnswer;
-use reader::ReadAnswer;
+use model::{Head, Refusal};
+use network::Network;
+
+// An accepted network, and what is prepared of it: the lists of the closed ends at each station, the lines from the HV stations
+// outwards, the breaker that trips for each line and the breakers on its path.
+#[derive(Drop)]
+pub struct Loaded {
+    pub network: Network,
+    pub chains: [u64; 512],
+    pub nexts: [u64; 1536],
+    pub sides: [u64; 768],
+    pub feeders: [u64; 768],
+    pub order: [u64; 768],
+    pub trips: [u64; 768],
+    pub counts: [u64; 768],
+}
 
 // The record of a line: behind the head and the stations.
-fn line_record(net: &buffer::Net, line: u64) -> u64
-    requires { Read (network_in net.now) × (line ≤ 769) }
-    ensures { result ≡ line_record (network_in net.now) line }
+fn line_record(net: &Network, line: usize) -> u64
+    requires { Read net.now × (line ≤ 769) }
+    ensures { result ≡ line_record net.now line }
 {
-    1 + buffer::station_count(net) as u64 + line
+    (1 + net.station_count() + line) as u64
 }
 
 // The record of a station: behind the head.
-fn station_record(station: u64) -> u64
+fn station_record(station: usize) -> u64
     requires { station ≤ 513 }
     ensures { result ≡ station_record station }
 {
-    1 + station
+    (1 + station) as u64
 }
 
 // The rules 4 to 8 in turn.
-fn forest_rules(net: &buffer::Net) -> CheckAnswer
-    requires { Read (network_in net.now) }
-    ensures next_value { (next : Answer Network) → before result next ≡ forest (network_in net.now) next }
-    ensures rules { result ≡ CheckAnswer.Accepted → Rules (network_in net.now) }
+fn forest_rules(net: &Network) -> Result<(), Refusal>
+    requires { Read net.now }
+    ensures next_value { (next : Answer Network) → before result next ≡ forest net.now next }
+    ensures rules { OnOk result (Rules net.now) }
 {
-    let open = end_rules::open_line(net);
-    if open != 0 {
-        return CheckAnswer::Refused {
-            number: 4,
-            record: line_record(net, open),
-        };
+    if let Some(line) = end_rules::open_line(net) {
+        return Err(Refusal::OpenLine {
+            record: line_record(net, line),
+        });
     }
-    let plain = end_rules::plain_at_hv(net);
-    if plain != 0 {
-        return CheckAnswer::Refused {
-            number: 5,
-            record: line_record(net, plain),
-        };
+    if let Some(line) = end_rules::plain_at_hv(net) {
+        return Err(Refusal::PlainAtHv {
+            record: line_record(net, line),
+        });
     }
-    let mut labels = tree::stations_space();
-    if radial::path_returns(net, &mut labels) {
-        return CheckAnswer::Refused {
-            number: 6,
-            record: 0,
-        };
-    }
+    let Some(labels) = radial::label_paths(net) else {
+        return Err(Refusal::Ring);
+    };
     if radial::hv_joined(net, &labels) {
-        return CheckAnswer::Refused {
-            number: 7,
-            record: 0,
-        };
+        return Err(Refusal::Joined);
     }
-    let unsupplied = radial::unsupplied(net, &labels);
-    if unsupplied != 0 {
-        return CheckAnswer::Refused {
-            number: 8,
-            record: station_record(unsupplied),
-        };
+    if let Some(station) = radial::unsupplied(net, &labels) {
+        return Err(Refusal::Unsupplied {
+            record: station_record(station),
+        });
     }
-    CheckAnswer::Accepted
+    Ok(())
 }
 
-// The rules 4 to 9 in turn. Where they hold, the lists of the closed ends at each station, the lines from the HV stations outwards,
-// the breaker that trips for each line and the breakers on its path are left in the buffers.
-fn rules(
-    net: &buffer::Net,
-    chains: &mut [u64; 512],
-    nexts: &mut [u64; 1536],
-    sides: &mut [u64; 768],
-    feeders: &mut [u64; 768],
-    order: &mut [u64; 768],
-    trips: &mut [u64; 768],
-    counts: &mut [u64; 768],
-) -> CheckAnswer
-    requires { Read (network_in net.now) }
-    ensures net_value { loaded result net.now ≡ radial (network_in net.now) }
-    ensures prepared { result ≡ CheckAnswer.Accepted → Prepared (network_in net.now) chains.new
-        nexts.new sides.new feeders.new order.new trips.new
-        counts.new }
-{
-    match forest_rules(net) {
-        CheckAnswer::Refused { number, record } => {
-            return CheckAnswer::Refused { number, record };
+impl Loaded {
+    // Room for a file. It is large for a stack, so a file is loaded where it lies.
+    pub fn new() -> Loaded {
+        Loaded {
+            network: Network::new(Head::default()),
+            chains: tree::stations_space(),
+            nexts: tree::ends_space(),
+            sides: tree::lines_space(),
+            feeders: tree::lines_space(),
+            order: tree::lines_space(),
+            trips: tree::lines_space(),
+            counts: tree::lines_space(),
         }
-        CheckAnswer::Accepted => {}
     }
-    tree::link_ends(net, chains, nexts);
-    tree::outwards(net, chains, nexts, sides, feeders, order);
-    paths::fill_trips(net, sides, feeders, order, trips, counts);
-    if series::over_series(net, sides, counts) {
-        return CheckAnswer::Refused {
-            number: 9,
-            record: 0,
-        };
-    }
-    CheckAnswer::Accepted
-}
 
-// Reads and checks a file. Where it is accepted, its network and what is prepared of it are left in the buffers.
-pub fn load(
-    file: &[u8],
-    net: &mut buffer::Net,
-    chains: &mut [u64; 512],
-    nexts: &mut [u64; 1536],
-    sides: &mut [u64; 768],
-    feeders: &mut [u64; 768],
-    order: &mut [u64; 768],
-    trips: &mut [u64; 768],
-    counts: &mut [u64; 768],
-) -> CheckAnswer
-    ensures net_after { loaded result net.new ≡ accepted file.now }
-    ensures prepared { result ≡ CheckAnswer.Accepted → Prepared (network_in net.new) chains.new nexts.new
-        sides.new feeders.new order.new trips.new counts.new }
-{
-    match reader::read(file, net) {
-        ReadAnswer::Refused { number, record } => CheckAnswer::Refused { number, record },
-        ReadAnswer::Read => rules(net, chains, nexts, sides, feeders, order, trips, counts),
-    }
-}
-
-// The impact of a fault on each line of an accepted network, by the breaker that trips for it.
-fn line_impacts(
-    net: &buffer::Net,
-    chains: &[u64; 512],
-    nexts: &[u64; 1536],
-    trips: &[u64; 768],
-    out: &mut [u64; 768],
-)
-    requires { Accepted (network_in net.now) × Linked (network_in net.now) chains.now nexts.now
-        × HoldsTrips (network_in net.now) trips.now }
-    ensures { HoldsImpacts (network_in net.now) out.new }
-{
-    let mut sums = tree::lines_space();
-    outage::customers_behind(net, chains, nexts, &mut sums);
-    outage::impacts(net, trips, &sums, out);
-}
-
-// Reads and checks a file. Where it is accepted, its network and the impact of a fault on each line are left in the buffers.
-pub fn load_impacts(file: &[u8], net: &mut buffer::Net, out: &mut [u64; 768]) -> CheckAnswer
-    ensures net_after { loaded result net.new ≡ accepted file.now }
-    ensures holds_impacts { result ≡ CheckAnswer.Accepted → HoldsImpacts (network_in net.new) out.new }
-{
-    let mut chains = tree::stations_space();
-    let mut nexts = tree::ends_space();
-    let mut sides = tree::lines_space();
-    let mut feeders = tree::lines_space();
-    let mut order = tree::lines_space();
-    let mut trips = tree::lines_space();
-    let mut counts = tree::lines_space();
-    match load(
-        file,
-        net,
-        &mut chains,
-        &mut nexts,
-        &mut sides,
-        &mut feeders,
-        &mut order,
-        &mut trips,
-        &mut counts,
-    ) {
-        CheckAnswer::Refused { number, record } => CheckAnswer::Refused { number, record },
-        CheckAnswer::Accepted => {
-            line_impacts(net, &chains, &nexts, &trips, out);
-            CheckAnswer::Accepted
+    // The rules 4 to 9 in turn. Where they hold, the rest is prepared of the network.
+    fn prepare(&mut self) -> Result<(), Refusal>
+        requires { Read self.old.network }
+        ensures answer { network_says result self.new ≡ radial self.old.network }
+        ensures prepared { OnOk result (IsPrepared self.new) }
+    {
+        forest_rules(&self.network)?;
+        tree::link_ends(&self.network, &mut self.chains, &mut self.nexts);
+        tree::outwards(
+            &self.network,
+            &self.chains,
+            &self.nexts,
+            &mut self.sides,
+            &mut self.feeders,
+            &mut self.order,
+        );
+        paths::fill_trips(
+            &self.network,
+            &self.sides,
+            &self.feeders,
+            &self.order,
+            &mut self.trips,
+            &mut self.counts,
+        );
+        if series::over_series(&self.network, &self.sides, &self.counts) {
+            return Err(Refusal::OverSeries);
         }
+        Ok(())
+    }
+
+    // Reads and checks a file.
+    pub fn load(&mut self, file: &[u8]) -> Result<(), Refusal>
+        ensures answer { network_says result self.new ≡ accepted file.now }
+        ensures loaded { OnOk result (IsLoaded self.new) }
+    {
+        reader::read(file, &mut self.network)?;
+        self.prepare()
+    }
+
+    // The customers behind each line.
+    pub fn customers(&self) -> [u64; 768]
+        requires { IsLoaded self.now }
+        ensures { HoldsCustomers self.now.network result }
+    {
+        let mut sums = tree::lines_space();
+        outage::customers_behind(&self.network, &self.chains, &self.nexts, &mut sums);
+        sums
+    }
+
+    // The impact of a fault on each line, by the breaker that trips for it.
+    pub fn impacts(&self) -> [u64; 768]
+        requires { IsLoaded self.now }
+        ensures { HoldsImpacts self.now.network result }
+    {
+        let sums = self.customers();
+        let mut impacts = tree::lines_space();
+        outage::impacts(&self.network, &self.trips, &sums, &mut impacts);
+        impacts
     }
 }

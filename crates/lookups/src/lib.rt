@@ -1,120 +1,84 @@
-// A read network asked by any number: what is not there has station 0 and no closed end. Rows of numbers, by the number of a station or
-// a line, likewise.
+// A network asked by any number, and sets of its lines.
 #![tactic(auto)]
 
-ghost use Rattle.theory.specs.Reading.{Read};
-ghost use Rattle.buffer.specs.Buffer.{network_in};
+use network::{Line, Network, Role, Side, State, Station};
 
-// Whether the network has an HV station of this number.
-pub fn is_hv(net: &buffer::Net, station: u64) -> bool
-    requires { Read (network_in net.now) }
-{
-    let s = station as usize;
-    if s == 0 {
-        return false;
-    }
-    if buffer::station_count(net) < s {
-        return false;
-    }
-    grid::is_hv(net, s)
+// The station of a number, if there is one.
+pub fn station(network: &Network, number: usize) -> Option<Station> {
+    network.stations().get(number.checked_sub(1)?).copied()
 }
 
-// The station that end 1 or else end 2 of a line is at, or 0.
-pub fn station_of(net: &buffer::Net, line: u64, side: u64) -> u64
-    requires { Read (network_in net.now) }
-{
-    let l = line as usize;
-    if l == 0 {
-        return 0;
-    }
-    if buffer::line_count(net) < l {
-        return 0;
-    }
-    if side == 1 {
-        return grid::end_station(net, l, 1) as u64;
-    }
-    grid::end_station(net, l, 2) as u64
+// The line of a number, if there is one.
+pub fn line(network: &Network, number: usize) -> Option<Line> {
+    network.lines().get(number.checked_sub(1)?).copied()
 }
 
-// Whether an end of a line is at a station.
-pub fn is_at(net: &buffer::Net, line: u64, station: u64) -> bool
-    requires { Read (network_in net.now) }
-{
-    station_of(net, line, 1) == station || station_of(net, line, 2) == station
+// Whether there is an HV station of a number.
+pub fn is_hv(network: &Network, number: usize) -> bool {
+    station(network, number).is_some_and(|station| station.role == Role::Hv)
 }
 
-// Whether end 1 or else end 2 of a line is open.
-pub fn is_open(net: &buffer::Net, line: u64, side: u64) -> bool
-    requires { Read (network_in net.now) }
-{
-    let l = line as usize;
-    if l == 0 {
-        return false;
-    }
-    if buffer::line_count(net) < l {
-        return false;
-    }
-    if side == 1 {
-        return grid::is_open(net, l, 1);
-    }
-    grid::is_open(net, l, 2)
-}
-
-// The breakers, 1 or 0, at end 1 or else end 2 of a line.
-pub fn breakers_at(net: &buffer::Net, line: u64, side: u64) -> u64
-    requires { Read (network_in net.now) }
-{
-    let l = line as usize;
-    if l == 0 {
-        return 0;
-    }
-    if buffer::line_count(net) < l {
-        return 0;
-    }
-    if side == 1 {
-        return grid::is_breaker(net, l, 1) as u64;
-    }
-    grid::is_breaker(net, l, 2) as u64
-}
-
-// The station that end 1 or else end 2 of a line is at if the end is closed, else 0.
-pub fn closed_at(net: &buffer::Net, line: u64, side: u64) -> u64
-    requires { Read (network_in net.now) }
-{
-    if is_open(net, line, side) {
-        0
-    } else {
-        station_of(net, line, side)
+// The station that an end of a line is at, if the end is closed.
+pub fn closed_at(line: &Line, side: Side) -> Option<usize> {
+    match line.state(side) {
+        State::Plain | State::Breaker => Some(line.station(side)),
+        State::Open => None,
     }
 }
 
-// Whether both ends of a line are closed.
-pub fn joins(net: &buffer::Net, line: u64) -> bool
-    requires { Read (network_in net.now) }
-{
-    closed_at(net, line, 1) != 0 && closed_at(net, line, 2) != 0
+// The stations that a line joins, if both its ends are closed.
+pub fn joined_by(line: &Line) -> Option<(usize, usize)> {
+    Some((closed_at(line, Side::One)?, closed_at(line, Side::Two)?))
 }
 
-// The number in a row, 0 behind its end.
-pub fn number_at(row: &[u64], i: u64) -> u64 {
-    let at = i as usize;
-    if at < row.len() { row[at] } else { 0 }
+// A set of lines, by their numbers.
+#[derive(Clone, Copy)]
+pub struct LineSet {
+    has: [bool; 768],
 }
 
-// Puts a number into a row, unless it is behind the row's end.
-pub fn put_at(row: &mut [u64], i: u64, x: u64) {
-    let at = i as usize;
-    if at < row.len() {
-        row[at] = x;
+impl LineSet {
+    // The set without lines.
+    pub fn empty() -> LineSet {
+        LineSet { has: [false; 768] }
     }
-}
 
-// A sum of two counts; 0 if one of them is a million or more, which no count of a file is.
-pub fn sum(a: u64, b: u64) -> u64 {
-    if a < 1000000 {
-        if b < 1000000 {
-            return a + b;
+    // Whether a line is in the set.
+    pub fn contains(&self, line: usize) -> bool {
+        line.checked_sub(1)
+            .is_some_and(|index| self.has.get(index) == Some(&true))
+    }
+
+    // Puts a line into the set.
+    pub fn insert(&mut self, line: usize) {
+        if let Some(index) = line.checked_sub(1)
+            && let Some(is_in) = self.has.get_mut(index)
+        {
+            *is_in = true;
         }
     }
-    0
+
+    // Leaves the lines only that are to be kept.
+    pub fn retain<F: Fn(usize) -> bool>(&mut self, keeps: F)
+        requires { F.IsAlwaysCallable keeps }
+    {
+        for (number, is_in) in (1..).zip(&mut self.has) {
+            *is_in = *is_in && keeps(number);
+        }
+    }
+
+    // For each line that a network can have, in order, whether it is in the set.
+    pub fn flags(&self) -> &[bool; 768] {
+        &self.has
+    }
+
+    // How many lines are in the set.
+    pub fn len(&self) -> usize {
+        self.has.iter().filter(|&&is_in| is_in).count()
+    }
+
+    // Whether no line is in the set.
+    pub fn is_empty(&self) -> bool {
+        self.len() == 0
+    }
 }

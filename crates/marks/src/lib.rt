@@ -7,18 +7,19 @@ ghost use Rattle.model.specs.Paths.{is_breaker};
 ghost use Rattle.graphs.specs.Sum.{on};
 ghost use Rattle.savings.specs.Breakers.{end_at};
 ghost use Rattle.theory.specs.Reading.{Read};
-ghost use Rattle.buffer.specs.Buffer.{network_in};
 ghost use Rattle.tree.specs.Linked.{end_code, code_end};
 ghost use Rattle.tree.specs.Codes.{CodeThere};
 ghost use Rattle.marks.specs.Held.{HoldsEnds, HoldsPlaces, HoldsBreakers};
 
+use network::Network;
+
 // The code of the end that a place is on.
-fn end_of(net: &buffer::Net, place: usize) -> usize
-    requires { Read (network_in net.now) × (1 ≤ place) × (place ≤ length (network_in net.now).places) }
-    ensures { (result ≡ end_code (end_at (network_in net.now) place)) × (1 ≤ result)
-        × (result ≤ 2 * length (network_in net.now).lines) }
+fn end_of(net: &Network, place: usize) -> usize
+    requires { Read net.now × (1 ≤ place) × (place ≤ length net.now.places) }
+    ensures { (result ≡ end_code (end_at net.now place)) × (1 ≤ result)
+        × (result ≤ 2 * length net.now.lines) }
 {
-    2 * grid::place_line(net, place) + grid::place_side(net, place) - 2
+    2 * net.place_line(place) + net.place_side(place) - 2
 }
 
 // No place has an end.
@@ -29,12 +30,12 @@ fn no_ends(ends: &mut [u64; 65])
 }
 
 // The code of each place's end.
-pub fn fill_ends(net: &buffer::Net, ends: &mut [u64; 65])
-    requires { Read (network_in net.now) }
-    ensures { HoldsEnds (network_in net.now) ends.new × (length ends.new ≡ 65) }
+pub fn fill_ends(net: &Network, ends: &mut [u64; 65])
+    requires { Read net.now }
+    ensures { HoldsEnds net.now ends.new × (length ends.new ≡ 65) }
 {
     no_ends(ends);
-    for place in 1..buffer::place_count(net) + 1 {
+    for place in 1..net.place_count() + 1 {
         ends[place] = end_of(net, place) as u64;
     }
 }
@@ -54,12 +55,12 @@ fn is_place(place: usize) -> bool
 }
 
 // The place on each end.
-pub fn fill_places(net: &buffer::Net, marks: &mut [u64; 1537])
-    requires { Read (network_in net.now) }
-    ensures { HoldsPlaces (network_in net.now) marks.new }
+pub fn fill_places(net: &Network, marks: &mut [u64; 1537])
+    requires { Read net.now }
+    ensures { HoldsPlaces net.now marks.new }
 {
     clear(marks);
-    let mut place = buffer::place_count(net);
+    let mut place = net.place_count();
     while is_place(place) {
         marks[end_of(net, place)] = place as u64;
         place -= 1;
@@ -67,11 +68,11 @@ pub fn fill_places(net: &buffer::Net, marks: &mut [u64; 1537])
 }
 
 // The mark of an end as a breaker: its code if it is one, else 0.
-fn breaker_mark(net: &buffer::Net, code: usize) -> u64
-    requires { CodeThere (network_in net.now) code }
-    ensures { result ≡ on (is_breaker (network_in net.now) (code_end code)) code }
+fn breaker_mark(net: &Network, code: usize) -> u64
+    requires { CodeThere net.now code }
+    ensures { result ≡ on (is_breaker net.now (code_end code)) code }
 {
-    if grid::is_breaker(net, (code + 1) / 2, 2 - code % 2) {
+    if net.is_breaker((code + 1) / 2, 2 - code % 2) {
         code as u64
     } else {
         0
@@ -79,12 +80,12 @@ fn breaker_mark(net: &buffer::Net, code: usize) -> u64
 }
 
 // The breaker on each end.
-pub fn fill_breakers(net: &buffer::Net, marks: &mut [u64; 1537])
-    requires { Read (network_in net.now) }
-    ensures { HoldsBreakers (network_in net.now) marks.new }
+pub fn fill_breakers(net: &Network, marks: &mut [u64; 1537])
+    requires { Read net.now }
+    ensures { HoldsBreakers net.now marks.new }
 {
     clear(marks);
-    for code in 1..2 * buffer::line_count(net) + 1 {
+    for code in 1..2 * net.line_count() + 1 {
         marks[code] = breaker_mark(net, code);
     }
 }

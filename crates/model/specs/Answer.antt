@@ -1,5 +1,7 @@
 -- Answers, and the table of refusals ("Refusals and their places").
-use Rattle.std.specs.Prelude.{ℕ}
+use Rattle.std.specs.Prelude.{ℕ, Result, Ok, Err}
+use Rattle.model.specs.declared.Refusal.{Refusal}
+use Rattle.model.specs.declared.Refusal.TheVariants.{TooLong, Malformed, OutOfRange, NoSuchNumber, Misplaced, OpenLine, PlainAtHv, Ring, Joined, Unsupplied, OverSeries, ShortBuffer}
 
 -- what is asked for, or a refusal's number and record
 pub data Answer (A : Type 0) : Type 0 where
@@ -61,3 +63,39 @@ module _ {A : Type 0} where
   -- 2, record 0: the line number of Impact, or a number of Ceiling, is outside its range
   abbrev pub refuse_number : Answer A
   refuse_number = refused 2 0
+
+-- ── what the code answers ──
+
+-- a refusal's number and record, by the table
+abbrev pub refusal_number : Refusal → ℕ
+refusal_number TooLong = 1
+refusal_number (Malformed place) = 1
+refusal_number (OutOfRange place) = 2
+refusal_number NoSuchNumber = 2
+refusal_number (Misplaced place) = 3
+refusal_number (OpenLine place) = 4
+refusal_number (PlainAtHv place) = 5
+refusal_number Ring = 6
+refusal_number Joined = 7
+refusal_number (Unsupplied place) = 8
+refusal_number OverSeries = 9
+refusal_number ShortBuffer = 10
+
+abbrev pub refusal_record : Refusal → ℕ
+refusal_record TooLong = 0
+refusal_record (Malformed place) = place
+refusal_record (OutOfRange place) = place
+refusal_record NoSuchNumber = 0
+refusal_record (Misplaced place) = place
+refusal_record (OpenLine place) = place
+refusal_record (PlainAtHv place) = place
+refusal_record Ring = 0
+refusal_record Joined = 0
+refusal_record (Unsupplied place) = place
+refusal_record OverSeries = 0
+refusal_record ShortBuffer = 0
+
+-- what is given, or the number and the record of the refusal
+abbrev pub says : {A : Type 0} → Result A Refusal → Answer A
+says (Ok a) = given a
+says (Err r) = refused (refusal_number r) (refusal_record r)

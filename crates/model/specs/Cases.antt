@@ -1,6 +1,6 @@
 -- The marked cases a to l ("File K and its kin"): one list, and one test of it that computes. Segment tables: another. What the
 -- program prints for its commands, and what the words behind its name ask for: two more.
-use Rattle.std.specs.Prelude.{ℕ, ◌+◌, ◌≡◌, refl, Bool, true, false, ◌&&◌, List, [], ◌∷◌, length, replicate, eqb}
+use Rattle.std.specs.Prelude.{ℕ, Some, None, Result, Ok, Err, ◌+◌, ◌≡◌, refl, Bool, true, false, ◌&&◌, List, [], ◌∷◌, length, replicate, eqb}
 use Prim.Native.Char.{code}
 use Prim.Native.String.{String, [] as []ˢ, ◌∷◌ as ◌∷ˢ◌, ◌++◌ as ◌++ˢ◌}
 use Rattle.model.specs.Lists.{all}
@@ -11,6 +11,7 @@ use Rattle.model.specs.Calls.{checked, impact_answered, totalled, searched, repo
 use Rattle.model.specs.Commands.{prints, requested}
 use Rattle.model.specs.declared.Command.{Command}
 use Rattle.model.specs.declared.Request.{Request}
+use Rattle.model.specs.declared.Misuse.{Misuse}
 
 -- the bytes of a text in which `|` stands for a newline
 bytes : String → List ℕ
@@ -168,31 +169,31 @@ unfolding all printings same_list bytes kin K K4 three ◌on◌shows◌ prints
 marked-printings = refl
 
 -- the words behind the program's name, and what they ask for
-request : List String → Request
+request : List String → Result Request Misuse
 request [] = requested 0 [] [] []
 request (a ∷ []) = requested 1 (bytes a) [] []
 request (a ∷ b ∷ []) = requested 2 (bytes a) (bytes b) []
 request (a ∷ b ∷ c ∷ more) = requested (3 + length more) (bytes a) (bytes b) (bytes c)
 
 pub record Requests : Type 0 where
-  nothing : request [] ≡ Request.Ask Command.Report 0
-  from_input : request ("check" ∷ []) ≡ Request.Ask Command.Check 0
-  from_file : request ("search" ∷ "a.net" ∷ []) ≡ Request.Ask Command.Search 2
-  numbered : request ("impact" ∷ "12" ∷ []) ≡ Request.Ask (Command.Impact 12) 0
-  both : request ("impact" ∷ "12" ∷ "a.net" ∷ []) ≡ Request.Ask (Command.Impact 12) 3
-  no_file : request ("ceiling" ∷ "64" ∷ "16" ∷ []) ≡ Request.Ask (Command.Ceiling 64 16) 0
-  file : request ("a.net" ∷ []) ≡ Request.Ask Command.Report 1
-  help : request ("-h" ∷ []) ≡ Request.Help
-  version : request ("version" ∷ []) ≡ Request.Version
-  missing : request ("impact" ∷ []) ≡ Request.NoNumber
-  one_missing : request ("ceiling" ∷ "64" ∷ []) ≡ Request.NoNumber
-  no_number : request ("impact" ∷ "a.net" ∷ []) ≡ Request.BadNumber 2
-  leading_zero : request ("ceiling" ∷ "64" ∷ "016" ∷ []) ≡ Request.BadNumber 3
-  eleven_digits : request ("impact" ∷ "10000000000" ∷ []) ≡ Request.BadNumber 2
-  two_files : request ("total" ∷ "a.net" ∷ "b.net" ∷ []) ≡ Request.TooMany
-  helpful : request ("help" ∷ "total" ∷ []) ≡ Request.TooMany
-  file_to_ceiling : request ("ceiling" ∷ "64" ∷ "16" ∷ "a.net" ∷ []) ≡ Request.TooMany
-  unknown : request ("Check" ∷ "a.net" ∷ []) ≡ Request.Unknown
+  nothing : request [] ≡ Ok (Request.Ask Command.Report None)
+  from_input : request ("check" ∷ []) ≡ Ok (Request.Ask Command.Check None)
+  from_file : request ("search" ∷ "a.net" ∷ []) ≡ Ok (Request.Ask Command.Search (Some 2))
+  numbered : request ("impact" ∷ "12" ∷ []) ≡ Ok (Request.Ask (Command.Impact 12) None)
+  both : request ("impact" ∷ "12" ∷ "a.net" ∷ []) ≡ Ok (Request.Ask (Command.Impact 12) (Some 3))
+  no_file : request ("ceiling" ∷ "64" ∷ "16" ∷ []) ≡ Ok (Request.Ask (Command.Ceiling 64 16) None)
+  file : request ("a.net" ∷ []) ≡ Ok (Request.Ask Command.Report (Some 1))
+  help : request ("-h" ∷ []) ≡ Ok Request.Help
+  version : request ("version" ∷ []) ≡ Ok Request.Version
+  missing : request ("impact" ∷ []) ≡ Err Misuse.NoNumber
+  one_missing : request ("ceiling" ∷ "64" ∷ []) ≡ Err Misuse.NoNumber
+  no_number : request ("impact" ∷ "a.net" ∷ []) ≡ Err (Misuse.BadNumber 2)
+  leading_zero : request ("ceiling" ∷ "64" ∷ "016" ∷ []) ≡ Err (Misuse.BadNumber 3)
+  eleven_digits : request ("impact" ∷ "10000000000" ∷ []) ≡ Err (Misuse.BadNumber 2)
+  two_files : request ("total" ∷ "a.net" ∷ "b.net" ∷ []) ≡ Err Misuse.TooMany
+  helpful : request ("help" ∷ "total" ∷ []) ≡ Err Misuse.TooMany
+  file_to_ceiling : request ("ceiling" ∷ "64" ∷ "16" ∷ "a.net" ∷ []) ≡ Err Misuse.TooMany
+  unknown : request ("Check" ∷ "a.net" ∷ []) ≡ Err Misuse.Unknown
 
 marked-requests : Requests
 unfolding request requested bytes

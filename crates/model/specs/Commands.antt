@@ -3,7 +3,7 @@
 use Rattle.std.specs.Prelude.{ℕ, ◌-◌, Bool, true, false, ◌&&◌, length, eqb, ltb}
 use Prim.Native.Char.{code}
 use Prim.Native.String.{String, [] as []ˢ, ◌∷◌ as ◌∷ˢ◌}
-use Rattle.std.proofs.Math.Option.{Option, none, some}
+use Rattle.std.specs.Prelude.{Option, None, Some, Result, Ok, Err}
 use mathlib.Core.List.{List, [], ◌∷◌, ◌++◌, flat_map}
 use Rattle.model.specs.Answer.{Answer, given, ◌>>=◌}
 use Rattle.model.specs.Format.{number_of}
@@ -12,10 +12,12 @@ use Rattle.model.specs.Rules.{accepted}
 use Rattle.model.specs.Walk.{Found, search}
 use Rattle.model.specs.Segments.{breaker_ends, segment}
 use Rattle.model.specs.Text.{printed_line, line_c, line_b, report_text}
-use Rattle.model.specs.Calls.{Totals, checked, impact_answered, totalled, ceiling_answered, text_or_x}
+use Rattle.model.specs.Calls.{checked, impact_answered, totalled, ceiling_answered, text_or_x}
 use Rattle.model.specs.declared.Command.{Command}
 use Rattle.model.specs.declared.Word.{Word}
 use Rattle.model.specs.declared.Request.{Request}
+use Rattle.model.specs.declared.Misuse.{Misuse}
+use Rattle.model.specs.declared.Totals.{Totals}
 
 -- ── the rows of text that the report does not have, or has among others ──
 
@@ -104,33 +106,33 @@ unfolding look_up plain_words number_words help_words
 word_of w = look_up plain_words (look_up number_words (look_up help_words Word.Other w) w) w
 
 -- `left` words are left. A request that takes none of them
-unfoldable pub alone : Request → ℕ → Request
-alone r left = elim (eqb left 0) [ true ↦ r | false ↦ Request.TooMany ]
+unfoldable pub alone : Request → ℕ → Result Request Misuse
+alone r left = elim (eqb left 0) [ true ↦ Ok r | false ↦ Err Misuse.TooMany ]
 
 -- a command whose file is named by the word that is left, number `next`, or comes from standard input
-unfoldable pub with_file : Command → ℕ → ℕ → Request
+unfoldable pub with_file : Command → ℕ → ℕ → Result Request Misuse
 with_file command next left =
-    elim (eqb left 0) [ true ↦ Request.Ask command 0 | false ↦ elim (eqb left 1) [ true ↦ Request.Ask command next | false ↦ Request.TooMany ] ]
+    elim (eqb left 0) [ true ↦ Ok (Request.Ask command None) | false ↦ elim (eqb left 1) [ true ↦ Ok (Request.Ask command (Some next)) | false ↦ Err Misuse.TooMany ] ]
 
 -- impact LINE
-unfoldable pub impact_asked : ℕ → Option ℕ → Request
+unfoldable pub impact_asked : ℕ → Option ℕ → Result Request Misuse
 unfolding with_file
-impact_asked left none = elim (eqb left 0) [ true ↦ Request.NoNumber | false ↦ Request.BadNumber 2 ]
-impact_asked left (some l) = elim (eqb left 0) [ true ↦ Request.NoNumber | false ↦ with_file (Command.Impact l) 3 (left - 1) ]
+impact_asked left None = elim (eqb left 0) [ true ↦ Err Misuse.NoNumber | false ↦ Err (Misuse.BadNumber 2) ]
+impact_asked left (Some l) = elim (eqb left 0) [ true ↦ Err Misuse.NoNumber | false ↦ with_file (Command.Impact l) 3 (left - 1) ]
 
 -- ceiling PLACES ADDITIONS
-unfoldable pub sets_asked : ℕ → Option ℕ → Option ℕ → Request
+unfoldable pub sets_asked : ℕ → Option ℕ → Option ℕ → Result Request Misuse
 unfolding alone
-sets_asked left none additions = Request.BadNumber 2
-sets_asked left (some places) none = Request.BadNumber 3
-sets_asked left (some places) (some additions) = alone (Request.Ask (Command.Ceiling places additions) 0) (left - 2)
+sets_asked left None additions = Err (Misuse.BadNumber 2)
+sets_asked left (Some places) None = Err (Misuse.BadNumber 3)
+sets_asked left (Some places) (Some additions) = alone (Request.Ask (Command.Ceiling places additions) None) (left - 2)
 
-unfoldable pub ceiling_asked : ℕ → Option ℕ → Option ℕ → Request
+unfoldable pub ceiling_asked : ℕ → Option ℕ → Option ℕ → Result Request Misuse
 unfolding sets_asked
-ceiling_asked left places additions = elim (ltb left 2) [ true ↦ Request.NoNumber | false ↦ sets_asked left places additions ]
+ceiling_asked left places additions = elim (ltb left 2) [ true ↦ Err Misuse.NoNumber | false ↦ sets_asked left places additions ]
 
 -- the first word names a command, or else, by itself, the file of a report
-unfoldable pub asked : Word → ℕ → List ℕ → List ℕ → Request
+unfoldable pub asked : Word → ℕ → List ℕ → List ℕ → Result Request Misuse
 unfolding alone with_file impact_asked ceiling_asked number_of
 asked Word.Report left second third = with_file Command.Report 2 left
 asked Word.Check left second third = with_file Command.Check 2 left
@@ -141,13 +143,13 @@ asked Word.Segments left second third = with_file Command.Segments 2 left
 asked Word.Ceiling left second third = ceiling_asked left (number_of second) (number_of third)
 asked Word.Help left second third = alone Request.Help left
 asked Word.Version left second third = alone Request.Version left
-asked Word.Other left second third = elim (eqb left 0) [ true ↦ Request.Ask Command.Report 1 | false ↦ Request.Unknown ]
+asked Word.Other left second third = elim (eqb left 0) [ true ↦ Ok (Request.Ask Command.Report (Some 1)) | false ↦ Err Misuse.Unknown ]
 
 -- `count` words, and the first three of them; those that are not there do not matter
-unfoldable pub requested : (count : ℕ) (first second third : List ℕ) → Request
+unfoldable pub requested : (count : ℕ) (first second third : List ℕ) → Result Request Misuse
 unfolding asked word_of
 requested count first second third =
     elim (eqb count 0) [
-      | true ↦ Request.Ask Command.Report 0
-      | false ↦ elim (ltb 3 count) [ true ↦ Request.TooMany | false ↦ asked (word_of first) (count - 1) second third ]
+      | true ↦ Ok (Request.Ask Command.Report None)
+      | false ↦ elim (ltb 3 count) [ true ↦ Err Misuse.TooMany | false ↦ asked (word_of first) (count - 1) second third ]
     ]

@@ -6,7 +6,9 @@ use Rattle.model.specs.Network.{Network}
 use Rattle.model.specs.Rules.{accepted}
 use Rattle.model.specs.Sets.{place_numbers, allowed, set_total, allowed_count}
 use Rattle.model.specs.Walk.{search}
-use Rattle.model.specs.declared.SearchAnswer.{SearchAnswer}
+use Rattle.std.specs.Prelude.{Result, Ok, Err}
+use Rattle.model.specs.declared.Outcome.{Outcome}
+use Rattle.model.specs.declared.Refusal.{Refusal}
 
 -- an allowed set of the file's places: some of their numbers, rising
 pub record AllowedSet (N : Network) (S : List ℕ) : Type 0 where
@@ -40,12 +42,11 @@ pub record Answered (N : Network) (finished : Bool) (S : List ℕ) (total visits
   pub first_of_least : finished ≡ true → (T : List ℕ) → AllowedSet N T → set_total N T ≡ total → (T ≡ S) ⊎ Before S T
 
 -- the same of a declared answer, with its set at the start of the buffer
-unfoldable pub Answers : Network → SearchAnswer → List ℕ → Type 0
-Answers N (SearchAnswer.Finished m t v) buffer = Answered N true (take m buffer) t v
-Answers N (SearchAnswer.Spent m t v) buffer = Answered N false (take m buffer) t v
-Answers N (SearchAnswer.Refused number place) buffer = Unit
+unfoldable pub Answers : Network → Result Outcome Refusal → List ℕ → Type 0
+Answers N (Ok o) buffer = Answered N o.finished (take o.members buffer) o.total o.visits
+Answers N (Err r) buffer = Unit
 
 -- demand 3 of Search, for a file, its answer and the buffer that it leaves
-unfoldable pub Demand3 : List ℕ → SearchAnswer → List ℕ → Type 0
+unfoldable pub Demand3 : List ℕ → Result Outcome Refusal → List ℕ → Type 0
 unfolding Answers
 Demand3 file answer buffer = (N : Network) → accepted file ≡ given N → Answers N answer buffer

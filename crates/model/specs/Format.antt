@@ -1,6 +1,6 @@
 -- Records, fields and numbers of a file ("A network file", its first paragraph).
 use Rattle.std.specs.Prelude.{ℕ, ◌+◌, ◌*◌, ◌-◌, Bool, true, false, not, ◌&&◌, List, [], ◌∷◌, length, leb, eqb}
-use Rattle.std.proofs.Math.Option.{Option, none, some}
+use Rattle.std.specs.Prelude.{Option, None, Some}
 use Rattle.model.specs.Lists.{all}
 
 -- the bytes that part records and fields
@@ -57,29 +57,29 @@ value_from n (d ∷ ds) = value_from (n * 10 + (d - 48)) ds
 unfoldable pub number_of : List ℕ → Option ℕ
 unfolding no_leading_zero all value_from
 number_of f =
-    elim (no_leading_zero f && (leb (length f) 10 && all (λ b. is_digit b) f)) [ true ↦ some (value_from 0 f) | false ↦ none ]
+    elim (no_leading_zero f && (leb (length f) 10 && all (λ b. is_digit b) f)) [ true ↦ Some (value_from 0 f) | false ↦ None ]
 
 -- the numbers of fields, if each has one
 unfoldable pub with_number : Option ℕ → Option (List ℕ) → Option (List ℕ)
-with_number none ns = none
-with_number (some n) none = none
-with_number (some n) (some ns) = some (n ∷ ns)
+with_number None ns = None
+with_number (Some n) None = None
+with_number (Some n) (Some ns) = Some (n ∷ ns)
 
 unfoldable pub numbers_of : List (List ℕ) → Option (List ℕ)
 unfolding with_number number_of
-numbers_of [] = some []
+numbers_of [] = Some []
 numbers_of (f ∷ fs) = with_number (number_of f) (numbers_of fs)
 
 -- the numbers behind the kind, if the first field is just this letter and so many fields follow
 unfoldable pub after_letter : ℕ → ℕ → List (List ℕ) → Option (List ℕ)
 unfolding numbers_of
-after_letter letter count [] = none
-after_letter letter count ([] ∷ fs) = none
-after_letter letter count ((k ∷ []) ∷ fs) = elim (eqb k letter && eqb (length fs) count) [ true ↦ numbers_of fs | false ↦ none ]
-after_letter letter count ((k ∷ l ∷ ks) ∷ fs) = none
+after_letter letter count [] = None
+after_letter letter count ([] ∷ fs) = None
+after_letter letter count ((k ∷ []) ∷ fs) = elim (eqb k letter && eqb (length fs) count) [ true ↦ numbers_of fs | false ↦ None ]
+after_letter letter count ((k ∷ l ∷ ks) ∷ fs) = None
 
 -- the numbers of a record of this kind: none where its kind or form is wrong, or it is not closed
 unfoldable pub form_of : ℕ → ℕ → Record → Option (List ℕ)
 unfolding after_letter fields_of
 form_of letter count (closed r) = after_letter letter count (fields_of r)
-form_of letter count (unclosed r) = none
+form_of letter count (unclosed r) = None

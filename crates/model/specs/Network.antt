@@ -1,22 +1,12 @@
 -- The records of a network file, and the refusals 1 to 3 ("A network file").
 use Rattle.std.specs.Prelude.{ℕ, zero, suc, ◌+◌, Bool, true, false, ◌&&◌, ◌||◌, List, [], ◌∷◌, map, length, get_or, leb, ltb, eqb}
-use Rattle.std.proofs.Math.Option.{Option, none, some}
+use Rattle.std.specs.Prelude.{Option, None, Some}
 use Rattle.model.specs.Lists.{numbered}
 use Rattle.model.specs.Answer.{Answer, given, ◌>>=◌, refuse_length, refuse_form, refuse_range, refuse_place}
 use Rattle.model.specs.Format.{Record, records_of, form_of}
 use Rattle.model.specs.Ranges.{row_n, row_s, row_l, row_p, all_in_range}
 use Rattle.model.specs.declared.Range.{Range}
-
--- N,stations,lines,minutes,series,adds,money,hours,visits
-pub record Head : Type 0 where
-  pub stations : ℕ
-  pub lines : ℕ
-  pub minutes : ℕ
-  pub series : ℕ
-  pub adds : ℕ
-  pub money : ℕ
-  pub hours : ℕ
-  pub visits : ℕ
+use Rattle.model.specs.declared.Head.{Head}
 
 -- S,role,customers. Role 1 is an HV station, 0 an MV station.
 pub record Station : Type 0 where
@@ -73,8 +63,8 @@ kind_p = record { letter = 80; ranges = row_p }
 -- the numbers of record `i` in a file of so many stations and lines: 1 for its form, then 2 for its values
 unfoldable pub check_values : (stations lines i : ℕ) → Kind → Option (List ℕ) → Answer (List ℕ)
 unfolding all_in_range
-check_values stations lines i k none = refuse_form i
-check_values stations lines i k (some vs) =
+check_values stations lines i k None = refuse_form i
+check_values stations lines i k (Some vs) =
     elim (all_in_range stations lines (value vs 0) k.ranges vs) [ true ↦ given vs | false ↦ refuse_range i ]
 
 unfoldable pub read_record : (stations lines i : ℕ) → Kind → Record → Answer (List ℕ)

@@ -7,7 +7,8 @@ use Rattle.model.specs.Network.{Network, no_line}
 use Rattle.model.specs.Paths.{End, same_end, end1, end2, line_numbers, state, is_breaker}
 use Rattle.model.specs.Rules.{accepted}
 use Rattle.model.specs.Outage.{tripped, customers_behind, total}
-use Rattle.model.specs.declared.SegmentsAnswer.{SegmentsAnswer}
+use Rattle.std.specs.Prelude.{Result, Ok, Err}
+use Rattle.model.specs.declared.Refusal.{Refusal}
 
 -- the breaker ends, by line, then end
 unfoldable pub breaker_ends : Network → List End
@@ -56,11 +57,11 @@ pub record ByBreaker (N : Network) (n : ℕ) (buffer : List ℕ) : Type 0 where
   pub weights : sum (column 2 n buffer) ≡ all_weights N
 
 -- the same of a declared answer, with its entries at the start of the buffer
-unfoldable pub Groups : Network → SegmentsAnswer → List ℕ → Type 0
-Groups N (SegmentsAnswer.Entries n) buffer = ByBreaker N n buffer
-Groups N (SegmentsAnswer.Refused number place) buffer = Unit
+unfoldable pub Groups : Network → Result ℕ Refusal → List ℕ → Type 0
+Groups N (Ok n) buffer = ByBreaker N n buffer
+Groups N (Err r) buffer = Unit
 
 -- the claims of Segments, for a file, its answer and the buffer that it leaves
-unfoldable pub BreakerByBreaker : List ℕ → SegmentsAnswer → List ℕ → Type 0
+unfoldable pub BreakerByBreaker : List ℕ → Result ℕ Refusal → List ℕ → Type 0
 unfolding Groups
 BreakerByBreaker file answer buffer = (N : Network) → accepted file ≡ given N → Groups N answer buffer

@@ -1,197 +1,188 @@
-// Why a network whose records are all well formed is refused, in words: what is wrong, where, and what to do. Each function puts its
-// text from position `at` on and answers where the next text goes. Nothing is said of a rule that the network does not break.
+// Why a network whose records are all well formed is refused, in words: what is wrong, where, and what to do.
 #![tactic(auto)]
 
-ghost use Rattle.theory.specs.Reading.{Read};
-ghost use Rattle.buffer.specs.Buffer.{network_in};
+use line_words::{EndName, LineName, LineNames, StationName};
+use lookups::{is_hv, joined_by};
+use model::Refusal;
+use network::{Line, Network, Side, State};
+use series_words::OverSeries;
+use std::fmt;
+use supply_words::Unsupplied;
 
-use line_words::{put_end, put_line, put_lines, put_station};
-use lookups::{breakers_at, closed_at, is_hv, is_open, number_at};
-use reader::ReadAnswer;
-use words::put;
-
-// Rule 4, of a line.
-fn say_open(net: &buffer::Net, line: u64, out: &mut [u8], at: usize) -> usize
-    requires { Read (network_in net.now) }
-{
-    if !is_open(net, line, 1) || !is_open(net, line, 2) {
-        return at;
-    }
-    let at = put(out, at, b"both ends of ");
-    let at = put_line(out, at, line, buffer::station_count(net) as u64);
-    let at = put(
-        out,
-        at,
-        b" are open (state 2): close one of them (state 0 plain, 1 breaker), or take the record out of the file ",
-    );
-    put(
-        out,
-        at,
-        b"and count one line less in record 1 (later lines then have numbers one lower, in P records too).",
-    )
+// What is wrong with a network.
+#[derive(Clone, Copy)]
+enum Fault<'a> {
+    // both ends of a line are open
+    OpenLine(LineName),
+    // an end is plain at an HV station
+    PlainAtHv {
+        end: EndName,
+        station: StationName,
+        other_is_open: bool,
+    },
+    // both ends of a line are closed at one station
+    Loop {
+        line: LineName,
+        station: StationName,
+    },
+    // some lines form a ring
+    Ring(LineNames<'a>),
+    // some lines join two HV stations
+    Joined {
+        one: StationName,
+        other: StationName,
+        names: LineNames<'a>,
+    },
+    Unsupplied(Unsupplied<'a>),
+    OverSeries(OverSeries<'a>),
 }
 
-// Rule 5, of an end `side` of a line whose end `other` is the other one.
-fn say_plain_end(
-    net: &buffer::Net,
-    line: u64,
-    side: u64,
-    other: u64,
-    out: &mut [u8],
-    at: usize,
-) -> usize
-    requires { Read (network_in net.now) }
-{
-    let at = put_end(out, at, line, side, buffer::station_count(net) as u64);
-    let at = put(out, at, b" is plain (state 0) at HV ");
-    let at = put_station(out, at, closed_at(net, line, side));
-    let at = put(out, at, b": make it a breaker (state 1)");
-    if is_open(net, line, other) {
-        return put(out, at, b".");
-    }
-    put(out, at, b", or open it (state 2).")
+// The number of the line that a record is of, if it stands behind those of the head and the stations.
+fn line_of(network: &Network, record: u64) -> Option<usize> {
+    (record as usize).checked_sub(1 + network.stations().len())
 }
 
-// Whether an end, 1 or 2, of a line is plain and at an HV station.
-fn is_plain_at_hv(net: &buffer::Net, line: u64, side: u64) -> bool
-    requires { Read (network_in net.now) }
-{
-    breakers_at(net, line, side) == 0 && is_hv(net, closed_at(net, line, side))
-}
-
-// Rule 5, of a line.
-fn say_plain(net: &buffer::Net, line: u64, out: &mut [u8], at: usize) -> usize
-    requires { Read (network_in net.now) }
-{
-    if is_plain_at_hv(net, line, 1) {
-        return say_plain_end(net, line, 1, 2, out, at);
-    }
-    if is_plain_at_hv(net, line, 2) {
-        return say_plain_end(net, line, 2, 1, out, at);
-    }
-    at
-}
-
-// Rule 6, of a line with both ends at a station, in a file with so many stations.
-fn say_loop(out: &mut [u8], at: usize, line: u64, station: u64, stations: u64) -> usize {
-    let at = put(out, at, b"both ends of ");
-    let at = put_line(out, at, line, stations);
-    let at = put(out, at, b" are closed at ");
-    let at = put_station(out, at, station);
-    put(
-        out,
-        at,
-        b", so that it is a ring by itself: correct one of its stations (from or to), or open one end (state 2).",
-    )
-}
-
-// Rule 6.
-fn say_ring(net: &buffer::Net, out: &mut [u8], at: usize) -> usize
-    requires { Read (network_in net.now) }
-{
-    let stations = buffer::station_count(net) as u64;
-    let mut labels = [0u64; 513];
-    let last = network_parts::breaking_line(net, 6, &mut labels);
-    if last == 0 {
-        return at;
-    }
-    let station = closed_at(net, last, 1);
-    if station == closed_at(net, last, 2) {
-        return say_loop(out, at, last, station, stations);
-    }
-    let mut marks = [0u64; 769];
-    rings::mark_breaking(net, 6, last, &mut marks);
-    let at = put_lines(out, at, &marks, stations);
-    put(
-        out,
-        at,
-        b" form a ring: open one end of one of them (state 2), or correct a wrong station (from or to).",
-    )
-}
-
-// Rule 7, of two HV stations and the marked lines that join them, in a file with so many stations.
-fn say_path(
-    out: &mut [u8],
-    at: usize,
-    one: u64,
-    other: u64,
-    marks: &[u64],
-    stations: u64,
-) -> usize {
-    let at = put(out, at, b"HV ");
-    let at = put_station(out, at, one);
-    let at = put(out, at, b" and HV ");
-    let at = put_station(out, at, other);
-    let at = put(out, at, b" are joined by ");
-    let at = put_lines(out, at, marks, stations);
-    if line_words::marked(marks) == 1 {
-        return put(out, at, b": open one of its ends (state 2).");
-    }
-    put(out, at, b": open one end of one of them (state 2).")
-}
-
-// Rule 7.
-fn say_joined(net: &buffer::Net, out: &mut [u8], at: usize) -> usize
-    requires { Read (network_in net.now) }
-{
-    let mut labels = [0u64; 513];
-    let last = network_parts::breaking_line(net, 7, &mut labels);
-    if last == 0 {
-        return at;
-    }
-    let one = number_at(&labels, closed_at(net, last, 1));
-    let other = number_at(&labels, closed_at(net, last, 2));
-    let mut marks = [0u64; 769];
-    rings::mark_breaking(net, 7, last, &mut marks);
-    let stations = buffer::station_count(net) as u64;
-    if one < other {
-        return say_path(out, at, one, other, &marks, stations);
-    }
-    say_path(out, at, other, one, &marks, stations)
-}
-
-// The number of a record behind the first `before` ones, or 0.
-fn number_of(record: u64, before: u64) -> u64 {
-    if record < before {
-        return 0;
-    }
-    record - before
-}
-
-// The rule that a network breaks.
-fn say_rule(net: &buffer::Net, number: u64, record: u64, out: &mut [u8], at: usize) -> usize
-    requires { Read (network_in net.now) }
-{
-    let station = number_of(record, 1);
-    let line = number_of(station, buffer::station_count(net) as u64);
-    match number {
-        4 => say_open(net, line, out, at),
-        5 => say_plain(net, line, out, at),
-        6 => say_ring(net, out, at),
-        7 => say_joined(net, out, at),
-        8 => supply_words::say_unsupplied(net, station, out, at),
-        9 => series_words::say_series(net, out, at),
-        _ => at,
+// That both ends of a line are open.
+fn open_line(network: &Network, number: usize) -> Option<Fault<'_>> {
+    match lookups::line(network, number)? {
+        Line {
+            state1: State::Open,
+            state2: State::Open,
+            ..
+        } => Some(Fault::OpenLine(LineName::find(network, number)?)),
+        _ => None,
     }
 }
 
-// The rule that the network of a file breaks, if its records are well formed.
-fn say_broken(file: &[u8], number: u64, record: u64, out: &mut [u8], at: usize) -> usize {
-    let mut net = buffer::space();
-    match reader::read(file, &mut net) {
-        ReadAnswer::Refused {
-            number: other,
-            record: place,
-        } => at,
-        ReadAnswer::Read => say_rule(&net, number, record, out, at),
+// That an end of a line is plain at an HV station.
+fn plain_end(network: &Network, number: usize, side: Side) -> Option<Fault<'_>> {
+    let line = lookups::line(network, number)?;
+    let station = line.station(side);
+    if line.state(side) != State::Plain || !is_hv(network, station) {
+        return None;
+    }
+    Some(Fault::PlainAtHv {
+        end: EndName {
+            side,
+            line: LineName::find(network, number)?,
+        },
+        station: StationName::find(network, station)?,
+        other_is_open: line.state(side.other()) == State::Open,
+    })
+}
+
+// That lines form a ring.
+fn ring(network: &Network) -> Option<Fault<'_>> {
+    let last = network_parts::first_closing_ring(network)?;
+    let (one, other) = joined_by(&lookups::line(network, last)?)?;
+    if one == other {
+        return Some(Fault::Loop {
+            line: LineName::find(network, last)?,
+            station: StationName::find(network, one)?,
+        });
+    }
+    let lines = rings::ring_of(network, last);
+    Some(Fault::Ring(LineNames { network, lines }))
+}
+
+// That lines join two HV stations.
+fn joined(network: &Network) -> Option<Fault<'_>> {
+    let join = network_parts::first_joining_hv(network)?;
+    let lines = rings::path_of(network, join.line);
+    Some(Fault::Joined {
+        one: StationName::find(network, join.one.min(join.other))?,
+        other: StationName::find(network, join.one.max(join.other))?,
+        names: LineNames { network, lines },
+    })
+}
+
+impl<'a> Fault<'a> {
+    // What a refusal of a network is about.
+    fn find(network: &'a Network, refusal: Refusal) -> Option<Self> {
+        match refusal {
+            Refusal::OpenLine { record } => open_line(network, line_of(network, record)?),
+            Refusal::PlainAtHv { record } => {
+                let line = line_of(network, record)?;
+                plain_end(network, line, Side::One).or_else(|| plain_end(network, line, Side::Two))
+            }
+            Refusal::Ring => ring(network),
+            Refusal::Joined => joined(network),
+            Refusal::Unsupplied { record } => {
+                let station = (record as usize).checked_sub(1)?;
+                Unsupplied::find(network, station).map(Fault::Unsupplied)
+            }
+            Refusal::OverSeries => OverSeries::find(network).map(Fault::OverSeries),
+            // a refusal of a record, a number or a buffer
+            _ => None,
+        }
     }
 }
 
-// Why a file was refused with 4 to 9, in words, from position `at` of the buffer on; answers where the next text goes.
-pub fn explain_network(file: &[u8], number: u64, record: u64, out: &mut [u8], at: usize) -> usize {
-    let to = say_broken(file, number, record, out, at);
-    if to == at {
-        return put(out, at, b"the network breaks a rule of radial feeders.");
+impl fmt::Display for Fault<'_> {
+    fn fmt<W: fmt::Write>(&self, f: &mut fmt::Formatter<W>) -> fmt::Result {
+        match self {
+            Fault::OpenLine(line) => write!(
+                f,
+                "both ends of {line} are open (state 2): close one of them (state 0 plain, 1 breaker), \
+                 or take the record out of the file and count one line less in record 1 \
+                 (later lines then have numbers one lower, in P records too)."
+            ),
+            Fault::PlainAtHv {
+                end,
+                station,
+                other_is_open,
+            } => {
+                let opening = if *other_is_open {
+                    ""
+                } else {
+                    ", or open it (state 2)"
+                };
+                write!(
+                    f,
+                    "{end} is plain (state 0) at HV {station}: make it a breaker (state 1){opening}."
+                )
+            }
+            Fault::Loop { line, station } => write!(
+                f,
+                "both ends of {line} are closed at {station}, so that it is a ring by itself: \
+                 correct one of its stations (from or to), or open one end (state 2)."
+            ),
+            Fault::Ring(names) => write!(
+                f,
+                "{names} form a ring: \
+                 open one end of one of them (state 2), or correct a wrong station (from or to)."
+            ),
+            Fault::Joined { one, other, names } => {
+                let open_end = if names.lines.len() == 1 {
+                    "one of its ends"
+                } else {
+                    "one end of one of them"
+                };
+                write!(
+                    f,
+                    "HV {one} and HV {other} are joined by {names}: open {open_end} (state 2)."
+                )
+            }
+            Fault::Unsupplied(unsupplied) => write!(f, "{unsupplied}"),
+            Fault::OverSeries(over_series) => write!(f, "{over_series}"),
+        }
     }
-    to
+}
+
+// Why a network was refused, in words; only that it breaks a rule if the network and the refusal do not belong together.
+#[derive(Clone, Copy)]
+pub struct Explanation<'a>(Option<Fault<'a>>);
+
+// Why a network was refused.
+pub fn explain(network: &Network, refusal: Refusal) -> Explanation<'_> {
+    Explanation(Fault::find(network, refusal))
+}
+
+impl fmt::Display for Explanation<'_> {
+    fn fmt<W: fmt::Write>(&self, f: &mut fmt::Formatter<W>) -> fmt::Result {
+        match &self.0 {
+            Some(fault) => write!(f, "{fault}"),
+            None => f.write_str("the network breaks a rule of radial feeders."),
+        }
+    }
 }

@@ -2,113 +2,107 @@
 // What is accepted is explained as if it were refused with 6.
 #![tactic(auto)]
 
-ghost use Rattle.std.specs.Prelude.{◌≤◌, length};
-
-use input::Input;
-use model::CheckAnswer;
+use model::{Head, Refusal};
+use network::Network;
+use network_words::explain;
+use std::fmt::Write;
 use std::io;
+use words::Lent;
 
-// Where the file that starts at `from` ends.
-fn file_end(input: &[u8], from: usize) -> usize
-    requires { from ≤ length input.now }
-    ensures { (from ≤ result) × (result ≤ length input.now) }
-{
-    let mut i = from;
-    while i < input.len() {
-        if input[i] == b'=' {
-            return i;
-        }
-        i += 1;
+// A head without stations and lines.
+const NO_HEAD: Head = Head {
+    stations: 0,
+    lines: 0,
+    minutes: 1,
+    series: 1,
+    adds: 0,
+    money: 0,
+    hours: 0,
+    visits: 1,
+};
+
+// The network of a file; one with nothing in it if the file's records are not well formed.
+fn network_of(file: &[u8]) -> Network {
+    let mut network = Network::new(NO_HEAD);
+    if reader::read(file, &mut network).is_err() {
+        network.clear(NO_HEAD);
     }
-    i
+    network
 }
 
-// The words for a number and a record, in a buffer from a position on.
-fn show_words(
-    rt: &impl Print,
-    file: &[u8],
-    number: u64,
-    record: u64,
-    out: &mut [u8],
-    at: usize,
-) -> io::Result<()> {
-    let end = network_words::explain_network(file, number, record, out, at);
-    let n = words::used(out, end);
-    rt.write_all(&out[..n])?;
-    println!(rt)
-}
-
-// Room for the words.
-fn words_space() -> [u8; 1000] {
-    [b'#'; 1000]
-}
-
-// A number, a record and the words for them.
-fn show_refusal(rt: &impl Print, file: &[u8], number: u64, record: u64) -> io::Result<()> {
-    print!(rt; "{number},{record}: ")?;
-    let mut out = words_space();
-    show_words(rt, file, number, record, &mut out, 0)
+// A number, a record and the words for a refusal.
+fn show_refusal(rt: &impl Print, network: &Network, refusal: Refusal) -> io::Result<()> {
+    let number = refusal.number();
+    let record = refusal.record();
+    let words = explain(network, refusal);
+    println!(rt; "{number},{record}: {words}")
 }
 
 // What is said of a file.
 fn show(rt: &impl Print, file: &[u8]) -> io::Result<()> {
+    let network = network_of(file);
     match engine::check(file) {
-        CheckAnswer::Accepted => {
+        Ok(()) => {
             print!(rt; "accepted, ")?;
-            show_refusal(rt, file, 6, 0)
+            show_refusal(rt, &network, Refusal::Ring)
         }
-        CheckAnswer::Refused { number, record } => show_refusal(rt, file, number, record),
+        Err(refusal) => show_refusal(rt, &network, refusal),
     }
 }
 
-// Numbers and records that do not belong to a file, and buffers that are too short.
-fn show_others(rt: &impl Print, file: &[u8]) -> io::Result<()> {
-    show_refusal(rt, file, 0, 0)?;
-    show_refusal(rt, file, 4, 0)?;
-    show_refusal(rt, file, 4, 18446744073709551615)?;
-    show_refusal(rt, file, 5, 2)?;
-    show_refusal(rt, file, 7, 0)?;
-    show_refusal(rt, file, 8, 2)?;
-    show_refusal(rt, file, 8, 0)?;
-    show_refusal(rt, file, 9, 0)?;
-    show_refusal(rt, file, 10, 0)?;
-    let mut short = [b'#'; 24];
-    show_words(rt, file, 6, 0, &mut short, 0)?;
-    show_words(rt, file, 6, 0, &mut short, 12)?;
-    show_words(rt, file, 6, 0, &mut short, 25)
-}
-
-// Others of a file with two parallel lines.
-fn show_others_of_two(rt: &impl Print) -> io::Result<()> {
-    show_others(
-        rt,
-        b"N,2,2,90,3,0,0,0,1\nS,1,0\nS,0,5\nL,1,1,2,1,0\nL,1,1,2,1,0\n",
-    )
-}
-
-// Room for the input.
-fn input_space() -> [u8; 200000] {
-    [0; 200000]
-}
-
 // What is said of each file of the input.
-fn show_files(rt: &impl Print, input: &[u8]) -> io::Result<()>
-    requires { length input.now ≤ 200000 }
-{
-    let mut at: usize = 0;
-    while at < input.len() {
-        let end = file_end(input, at);
-        show(rt, &input[at..end])?;
-        at = end + 2;
+fn show_files(rt: &impl Print, input: &[u8]) -> io::Result<()> {
+    for part in input.split_inclusive(|&byte| byte == b'=') {
+        if let [b'\n', file @ .., b'='] | [file @ .., b'='] = part {
+            show(rt, file)?;
+        }
     }
     Ok(())
 }
 
-fn main(rt: HostRuntime) -> io::Result<()> {
-    let mut input = input_space();
-    match input::read(&mut rt.stdin(), &mut input) {
-        Input::Failed(e) => return Err(e),
-        Input::Bytes(n) => show_files(&rt, &input[..n])?,
+// What a buffer keeps of the words for a ring that are written from position `at` on.
+fn show_kept(rt: &impl Print, network: &Network, buffer: &mut [u8], at: usize) -> io::Result<()> {
+    let mut lent = Lent::starting_at(buffer, at);
+    let words = explain(network, Refusal::Ring);
+    let _ = write!(lent, "{words}");
+    rt.write_all(lent.as_bytes())?;
+    println!(rt)
+}
+
+// Refusals that a network does not have, those with a number that is no rule of networks, and buffers that are too short.
+fn show_others(rt: &impl Print, network: &Network) -> io::Result<()> {
+    println!(rt; "0,0: {}", explain(network, Refusal::TooLong))?;
+    for record in [0, u64::MAX] {
+        show_refusal(rt, network, Refusal::OpenLine { record })?;
     }
+    show_refusal(rt, network, Refusal::PlainAtHv { record: 2 })?;
+    show_refusal(rt, network, Refusal::Joined)?;
+    for record in [2, 0] {
+        show_refusal(rt, network, Refusal::Unsupplied { record })?;
+    }
+    show_refusal(rt, network, Refusal::OverSeries)?;
+    show_refusal(rt, network, Refusal::ShortBuffer)?;
+    let mut short = [b'#'; 24];
+    for at in [0, 12, 25] {
+        show_kept(rt, network, &mut short, at)?;
+    }
+    Ok(())
+}
+
+// Others of a network with two parallel lines.
+fn show_others_of_two(rt: &impl Print) -> io::Result<()> {
+    let file = b"N,2,2,90,3,0,0,0,1\nS,1,0\nS,0,5\nL,1,1,2,1,0\nL,1,1,2,1,0\n";
+    show_others(rt, &network_of(file))
+}
+
+// Room for the input.
+fn space() -> [u8; 200000] {
+    [0; 200000]
+}
+
+fn main(rt: HostRuntime) -> io::Result<()> {
+    let mut input = space();
+    let n = input::read(&mut rt.stdin(), &mut input)?;
+    show_files(&rt, &input[..n])?;
     show_others_of_two(&rt)
 }

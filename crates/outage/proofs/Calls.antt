@@ -9,8 +9,7 @@ use Rattle.model.specs.Network.{Network}
 use Rattle.model.specs.Paths.{End, is_open, station_at}
 use Rattle.theory.specs.Ends.{closed-end}
 use Rattle.theory.specs.Behind.{far, station_sum, line_sum}
-use Rattle.buffer.specs.Buffer.{network_in}
-use Rattle.buffer.specs.Fits.{EndThere, end_in}
+use Rattle.network.specs.There.{EndThere, end_in}
 use Rattle.tree.specs.Linked.{code_end}
 use Rattle.tree.proofs.Fitting.{read_fits}
 use Rattle.outage.specs.Below.{Ready, Leaves, AtLine, AtStation, Filled}
@@ -29,16 +28,16 @@ module _ (N : Network) (e : End) where
   closed-sum zero h q = absurd (omega arith)
   closed-sum (suc k) h q = ap (λ j. station_sum N j (far e) (station_at N (far e))) {x = suc k - 1} {y = k} (omega arith) ∙ rw (line_sum, q)
 
-module _ (b chains nexts : List ℕ) (y : Ready (network_in b) chains nexts) (c k : ℕ) (t : AtLine (network_in b) (code_end c) k) where
-  pub line_code : (1 ≤ (c + 1) / 2) × ((c + 1) / 2 ≤ length (network_in b).lines) × (length (network_in b).lines ≤ 768)
-  line_code = let x = closed-end (network_in b) (code_end c) t.near.closed in (x.0, x.1, (read_fits (network_in b) y.read).lines)
+module _ (b : Network) (chains nexts : List ℕ) (y : Ready b chains nexts) (c k : ℕ) (t : AtLine b (code_end c) k) where
+  pub line_code : (1 ≤ (c + 1) / 2) × ((c + 1) / 2 ≤ length b.lines) × (length b.lines ≤ 768)
+  line_code = let x = closed-end b (code_end c) t.near.closed in (x.0, x.1, (read_fits b y.read).lines)
 
   pub line-left : 1 ≤ k
-  line-left = line-levels (network_in b) y.read y.rules (code_end c) k t
+  line-left = line-levels b y.read y.rules (code_end c) k t
 
   pub far-there : EndThere b ((c + 1) / 2) (1 + c % 2)
   far-there = record {
-    line = record { fits = read_fits (network_in b) y.read; low = line_code.0; high = line_code.1 };
+    line = record { low = line_code.0; high = line_code.1 };
     first = omega arith;
     second = omega arith;
   }
@@ -53,42 +52,42 @@ module _ (b chains nexts : List ℕ) (y : Ready (network_in b) chains nexts) (c 
       let q : 2 - (2 * ((c + 1) / 2) + (1 + c % 2) - 2) % 2 ≡ 3 - (2 - c % 2) = omega (arith, line_code) in
       λ i. record { line = p i; side = q i }
 
-  module _ (s : ℕ) (u : s ≡ station_at (network_in b) (end_in ((c + 1) / 2) (1 + c % 2))) (n : is_open (network_in b) (end_in ((c + 1) / 2) (1 + c % 2)) ≡ false) where
-    not-open : is_open (network_in b) (far (code_end c)) ≡ false
-    not-open = ap (λ e. is_open (network_in b) e) (sym far-end) ∙ n
+  module _ (s : ℕ) (u : s ≡ station_at b (end_in ((c + 1) / 2) (1 + c % 2))) (n : is_open b (end_in ((c + 1) / 2) (1 + c % 2)) ≡ false) where
+    not-open : is_open b (far (code_end c)) ≡ false
+    not-open = ap (λ e. is_open b e) (sym far-end) ∙ n
 
-    at-s : station_at (network_in b) (far (code_end c)) ≡ s
-    at-s = sym (u ∙ ap (station_at (network_in b)) far-end)
+    at-s : station_at b (far (code_end c)) ≡ s
+    at-s = sym (u ∙ ap (station_at b) far-end)
 
-    pub far-station : AtStation (network_in b) (code_end (2 * ((c + 1) / 2) + (1 + c % 2) - 2)) s (k - 1)
+    pub far-station : AtStation b (code_end (2 * ((c + 1) / 2) + (1 + c % 2) - 2)) s (k - 1)
     far-station =
-        subst (λ e. AtStation (network_in b) e s (k - 1)) (sym far-code)
-        (subst (λ z. AtStation (network_in b) (far (code_end c)) z (k - 1)) at-s
-        (at-far (network_in b) y.read y.rules (code_end c) k t not-open))
+        subst (λ e. AtStation b e s (k - 1)) (sym far-code)
+        (subst (λ z. AtStation b (far (code_end c)) z (k - 1)) at-s
+        (at-far b y.read y.rules (code_end c) k t not-open))
 
-    module _ (r : ℕ) (e : r ≡ station_sum (network_in b) (k - 1) (code_end (2 * ((c + 1) / 2) + (1 + c % 2) - 2)) s) where
-      pub connected-sum : r ≡ line_sum (network_in b) k (code_end c)
+    module _ (r : ℕ) (e : r ≡ station_sum b (k - 1) (code_end (2 * ((c + 1) / 2) + (1 + c % 2) - 2)) s) where
+      pub connected-sum : r ≡ line_sum b k (code_end c)
       connected-sum =
           e
-          ∙ ap (λ f. station_sum (network_in b) (k - 1) f s) far-code
-          ∙ ap (λ z. station_sum (network_in b) (k - 1) (far (code_end c)) z) (sym at-s)
-          ∙ closed-sum (network_in b) (code_end c) k line-left not-open
+          ∙ ap (λ f. station_sum b (k - 1) f s) far-code
+          ∙ ap (λ z. station_sum b (k - 1) (far (code_end c)) z) (sym at-s)
+          ∙ closed-sum b (code_end c) k line-left not-open
 
-      pub connected-filled : (old new : List ℕ) → length new ≡ 768 → Filled (network_in b) (Leaves (network_in b) (code_end (2 * ((c + 1) / 2) + (1 + c % 2) - 2)) s) old new
-          → Filled (network_in b) (λ d. d ≡ code_end c) old (set new ((c + 1) / 2 - 1) r)
+      pub connected-filled : (old new : List ℕ) → length new ≡ 768 → Filled b (Leaves b (code_end (2 * ((c + 1) / 2) + (1 + c % 2) - 2)) s) old new
+          → Filled b (λ d. d ≡ code_end c) old (set new ((c + 1) / 2 - 1) r)
       connected-filled old new h f =
-          filled-line (network_in b) y.read y.rules (code_end c) k t (Leaves (network_in b) (code_end (2 * ((c + 1) / 2) + (1 + c % 2) - 2)) s) old new r (omega (arith, line_code.2)) connected-sum
-          (λ g o l. subst (λ x. Leaves (network_in b) x s g) (sym far-code) (subst (λ z. Leaves (network_in b) (far (code_end c)) z g) at-s l)) f
+          filled-line b y.read y.rules (code_end c) k t (Leaves b (code_end (2 * ((c + 1) / 2) + (1 + c % 2) - 2)) s) old new r (omega (arith, line_code.2)) connected-sum
+          (λ g o l. subst (λ x. Leaves b x s g) (sym far-code) (subst (λ z. Leaves b (far (code_end c)) z g) at-s l)) f
 
-  module _ (n : is_open (network_in b) (end_in ((c + 1) / 2) (1 + c % 2)) ≡ true) where
-    far-open : is_open (network_in b) (far (code_end c)) ≡ true
-    far-open = ap (λ e. is_open (network_in b) e) (sym far-end) ∙ n
+  module _ (n : is_open b (end_in ((c + 1) / 2) (1 + c % 2)) ≡ true) where
+    far-open : is_open b (far (code_end c)) ≡ true
+    far-open = ap (λ e. is_open b e) (sym far-end) ∙ n
 
-    pub hanging-sum : 0 ≡ line_sum (network_in b) k (code_end c)
-    hanging-sum = open-sum (network_in b) (code_end c) k line-left far-open
+    pub hanging-sum : 0 ≡ line_sum b k (code_end c)
+    hanging-sum = open-sum b (code_end c) k line-left far-open
 
-    pub hanging-filled : (old : List ℕ) → length old ≡ 768 → Filled (network_in b) (λ d. d ≡ code_end c) old (set old ((c + 1) / 2 - 1) 0)
+    pub hanging-filled : (old : List ℕ) → length old ≡ 768 → Filled b (λ d. d ≡ code_end c) old (set old ((c + 1) / 2 - 1) 0)
     hanging-filled old h =
-        filled-line (network_in b) y.read y.rules (code_end c) k t (λ g. ⊥) old old 0 (omega (arith, line_code.2)) hanging-sum
+        filled-line b y.read y.rules (code_end c) k t (λ g. ⊥) old old 0 (omega (arith, line_code.2)) hanging-sum
         (λ g o l. true≢false (sym far-open ∙ o))
-        (filled_none (network_in b) (λ g. ⊥) old (λ g p. p))
+        (filled_none b (λ g. ⊥) old (λ g p. p))

@@ -9,21 +9,21 @@ ghost use Rattle.theory.specs.Reading.{Read};
 ghost use Rattle.theory.specs.Radial.{Rules};
 ghost use Rattle.theory.specs.Sizes.{Sized};
 ghost use Rattle.theory.specs.Behind.{station_sum, line_sum};
-ghost use Rattle.buffer.specs.Buffer.{network_in};
-ghost use Rattle.buffer.specs.Fits.{LineThere, EndThere, end_in};
+ghost use Rattle.network.specs.There.{LineThere, EndThere, end_in};
 ghost use Rattle.tree.specs.Linked.{code_end, Linked};
 ghost use Rattle.paths.specs.Held.{HoldsTrips};
 ghost use Rattle.outage.specs.Held.{HoldsCustomers, HoldsImpacts};
 ghost use Rattle.outage.specs.Below.{Ready, Leaves, AtLine, AtStation, Filled};
 
 use amounts::{Customers, Total, Weight};
+use network::Network;
 
 // Whether a line hangs: its far end, 1 or 2, is open, and it feeds no station.
-fn hangs(net: &buffer::Net, line: usize, far: usize) -> bool
+fn hangs(net: &Network, line: usize, far: usize) -> bool
     requires { EndThere net.now line far }
-    ensures { result ≡ is_open (network_in net.now) (end_in line far) }
+    ensures { result ≡ is_open net.now (end_in line far) }
 {
-    grid::is_open(net, line, far)
+    net.is_open(line, far)
 }
 
 // The customers of a station and behind some lines that leave it, with those behind one more line.
@@ -38,7 +38,7 @@ fn with_those_behind(sum: u64, behind: u64) -> u64
 // leaves it. The customers behind these lines, and behind the lines beyond them, are stored in `sums`.
 #[cycle(line_sum_station_sum)]
 fn station_sum(
-    net: &buffer::Net,
+    net: &Network,
     chains: &[u64; 512],
     nexts: &[u64; 1536],
     sums: &mut [u64],
@@ -46,13 +46,13 @@ fn station_sum(
     station: usize,
     levels: usize,
 ) -> u64
-    requires { Ready (network_in net.now) chains.now nexts.now
-        × AtStation (network_in net.now) (code_end came) station levels × (length sums.old ≡ 768) }
-    ensures { (result ≡ station_sum (network_in net.now) levels (code_end came) station)
-        × Filled (network_in net.now) (Leaves (network_in net.now) (code_end came) station)
+    requires { Ready net.now chains.now nexts.now
+        × AtStation net.now (code_end came) station levels × (length sums.old ≡ 768) }
+    ensures { (result ≡ station_sum net.now levels (code_end came) station)
+        × Filled net.now (Leaves net.now (code_end came) station)
         sums.old sums.new }
 {
-    let mut sum = grid::customers(net, station);
+    let mut sum = net.customers(station);
     let mut end = chains[station - 1] as usize;
     while end != 0 {
         let onward = end != came;
@@ -69,24 +69,24 @@ fn station_sum(
 // They are stored in `sums`, with those of the lines beyond.
 #[cycle(line_sum_station_sum)]
 fn line_sum(
-    net: &buffer::Net,
+    net: &Network,
     chains: &[u64; 512],
     nexts: &[u64; 1536],
     sums: &mut [u64],
     entered: usize,
     levels: usize,
 ) -> u64
-    requires { Ready (network_in net.now) chains.now nexts.now × AtLine (network_in net.now) (code_end entered) levels
+    requires { Ready net.now chains.now nexts.now × AtLine net.now (code_end entered) levels
         × (length sums.old ≡ 768) }
-    ensures { (result ≡ line_sum (network_in net.now) levels (code_end entered))
-        × Filled (network_in net.now) (λ d. d ≡ code_end entered) sums.old sums.new }
+    ensures { (result ≡ line_sum net.now levels (code_end entered))
+        × Filled net.now (λ d. d ≡ code_end entered) sums.old sums.new }
 {
     let line = (entered + 1) / 2;
     // the far end
     let side = 1 + entered % 2;
     let mut sum: u64 = 0;
     if !hangs(net, line, side) {
-        let station = grid::end_station(net, line, side);
+        let station = net.end_station(line, side);
         sum = station_sum(
             net,
             chains,
@@ -102,13 +102,13 @@ fn line_sum(
 }
 
 // The customers behind each line, from the HV stations outwards.
-fn sums_outwards(net: &buffer::Net, chains: &[u64; 512], nexts: &[u64; 1536], sums: &mut [u64])
-    requires { Ready (network_in net.now) chains.now nexts.now × (length sums.old ≡ 768) }
-    ensures { HoldsCustomers (network_in net.now) sums.new }
+fn sums_outwards(net: &Network, chains: &[u64; 512], nexts: &[u64; 1536], sums: &mut [u64])
+    requires { Ready net.now chains.now nexts.now × (length sums.old ≡ 768) }
+    ensures { HoldsCustomers net.now sums.new }
 {
-    let levels = 2 * buffer::line_count(net) + 1;
-    for station in 1..buffer::station_count(net) + 1 {
-        if grid::is_hv(net, station) {
+    let levels = 2 * net.line_count() + 1;
+    for station in 1..net.station_count() + 1 {
+        if net.is_hv(station) {
             station_sum(net, chains, nexts, sums, 0, station, levels);
         }
     }
@@ -116,14 +116,14 @@ fn sums_outwards(net: &buffer::Net, chains: &[u64; 512], nexts: &[u64; 1536], su
 
 // The customers behind each line.
 pub fn customers_behind(
-    net: &buffer::Net,
+    net: &Network,
     chains: &[u64; 512],
     nexts: &[u64; 1536],
     sums: &mut [u64; 768],
 )
-    requires { Read (network_in net.now) × Rules (network_in net.now)
-        × Linked (network_in net.now) chains.now nexts.now }
-    ensures { HoldsCustomers (network_in net.now) sums.new }
+    requires { Read net.now × Rules net.now
+        × Linked net.now chains.now nexts.now }
+    ensures { HoldsCustomers net.now sums.new }
 {
     sums_outwards(net, chains, nexts, sums);
 }
@@ -137,44 +137,44 @@ fn trip_line(trips: &[u64; 768], i: usize) -> usize
 }
 
 // The impact of a fault on each line: the customers behind the line of the breaker that trips for it.
-fn impacts_behind(net: &buffer::Net, trips: &[u64; 768], sums: &[u64; 768], out: &mut [u64])
-    requires { Read (network_in net.now) × Rules (network_in net.now) × HoldsTrips (network_in net.now) trips.now
-        × HoldsCustomers (network_in net.now) sums.now × (length out.old ≡ 768) }
-    ensures { HoldsImpacts (network_in net.now) out.new }
+fn impacts_behind(net: &Network, trips: &[u64; 768], sums: &[u64; 768], out: &mut [u64])
+    requires { Read net.now × Rules net.now × HoldsTrips net.now trips.now
+        × HoldsCustomers net.now sums.now × (length out.old ≡ 768) }
+    ensures { HoldsImpacts net.now out.new }
 {
-    for i in 0..buffer::line_count(net) {
+    for i in 0..net.line_count() {
         let line = trip_line(trips, i);
         out[i] = sums[line - 1];
     }
 }
 
 // The impact of a fault on each line.
-pub fn impacts(net: &buffer::Net, trips: &[u64; 768], sums: &[u64; 768], out: &mut [u64; 768])
-    requires { Read (network_in net.now) × Rules (network_in net.now) × HoldsTrips (network_in net.now) trips.now
-        × HoldsCustomers (network_in net.now) sums.now }
-    ensures { HoldsImpacts (network_in net.now) out.new }
+pub fn impacts(net: &Network, trips: &[u64; 768], sums: &[u64; 768], out: &mut [u64; 768])
+    requires { Read net.now × Rules net.now × HoldsTrips net.now trips.now
+        × HoldsCustomers net.now sums.now }
+    ensures { HoldsImpacts net.now out.new }
 {
     impacts_behind(net, trips, sums, out);
 }
 
 // The outage amount of a line: its weight times the impact of a fault on it.
-pub fn outage_amount(net: &buffer::Net, impacts: &[u64; 768], line: usize) -> Total
-    requires { LineThere net.now line × Sized (network_in net.now)
-        × (get_or impacts.now (line - 1) 0 ≡ impact (network_in net.now) line) }
-    ensures { result.0 ≡ outage_amount (network_in net.now) line }
+pub fn outage_amount(net: &Network, impacts: &[u64; 768], line: usize) -> Total
+    requires { LineThere net.now line × Sized net.now
+        × (get_or impacts.now (line - 1) 0 ≡ impact net.now line) }
+    ensures { result.0 ≡ outage_amount net.now line }
 {
-    let weight = Weight::new(grid::weight(net, line));
+    let weight = Weight::new(net.weight(line));
     let customers = Customers::new(impacts[line - 1]);
     amounts::times(weight, customers)
 }
 
 // The total: the sum of the outage amounts of all lines.
-pub fn total_of(net: &buffer::Net, impacts: &[u64; 768]) -> Total
-    requires { Read (network_in net.now) × HoldsImpacts (network_in net.now) impacts.now }
-    ensures { result.0 ≡ total_of (network_in net.now) }
+pub fn total_of(net: &Network, impacts: &[u64; 768]) -> Total
+    requires { Read net.now × HoldsImpacts net.now impacts.now }
+    ensures { result.0 ≡ total_of net.now }
 {
     let mut total = Total::ZERO;
-    for line in 1..buffer::line_count(net) + 1 {
+    for line in 1..net.line_count() + 1 {
         total = total.plus(outage_amount(net, impacts, line));
     }
     total
@@ -189,9 +189,9 @@ pub fn customer_minutes(minutes: u64, total: u64) -> u64
 }
 
 // The SAIDI figure of a network's total: minutes times the total.
-pub fn figure_of(net: &buffer::Net, total: u64) -> u64
-    requires { Read (network_in net.now) × (total ≡ total_of (network_in net.now)) }
-    ensures { result ≡ figure (network_in net.now) }
+pub fn figure_of(net: &Network, total: u64) -> u64
+    requires { Read net.now × (total ≡ total_of net.now) }
+    ensures { result ≡ figure net.now }
 {
-    customer_minutes(buffer::minutes(net), total)
+    customer_minutes(net.head().minutes, total)
 }

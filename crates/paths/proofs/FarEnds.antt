@@ -12,8 +12,7 @@ use Rattle.graphs.specs.Sum.{on}
 use Rattle.theory.specs.Reading.{Read}
 use Rattle.theory.specs.Radial.{Rules}
 use Rattle.theory.specs.Behind.{far}
-use Rattle.buffer.specs.Buffer.{network_in}
-use Rattle.buffer.specs.Fits.{LineThere, EndThere, end_in}
+use Rattle.network.specs.There.{LineThere, EndThere, end_in}
 use Rattle.tree.specs.Linked.{end_code}
 use Rattle.tree.specs.Outwards.{near_end}
 use Rattle.tree.specs.Feeding.{FarEnd}
@@ -51,9 +50,9 @@ module _ (N : Network) (d : Read N) (r : Rules N) where
   fed-path s f t = t.path ∙ ap (λ e. e ∷ route N f.line) t.is-far
 
 -- ── by the buffers ──
-module _ (b sides : List ℕ) (d : Read (network_in b)) (r : Rules (network_in b)) (h : HoldsSides (network_in b) sides) (l : ℕ) (t : LineThere b l) where
+module _ (b : Network) (sides : List ℕ) (d : Read b) (r : Rules b) (h : HoldsSides b sides) (l : ℕ) (t : LineThere b l) where
   abbrev N : Network
-  N = network_in b
+  N = b
 
   -- the number of the far end
   abbrev side : ℕ

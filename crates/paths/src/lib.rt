@@ -8,8 +8,7 @@ ghost use Rattle.model.specs.Paths.{End};
 ghost use Rattle.theory.specs.Reading.{Read};
 ghost use Rattle.theory.specs.Radial.{Rules};
 ghost use Rattle.theory.specs.Behind.{far};
-ghost use Rattle.buffer.specs.Buffer.{network_in};
-ghost use Rattle.buffer.specs.Fits.{LineThere};
+ghost use Rattle.network.specs.There.{LineThere};
 ghost use Rattle.tree.specs.Linked.{end_code};
 ghost use Rattle.tree.specs.Outwards.{Outwards, near_end};
 ghost use Rattle.sets.specs.Sets.{route};
@@ -17,20 +16,22 @@ ghost use Rattle.marks.specs.Held.{HoldsPlaces};
 ghost use Rattle.paths.specs.Held.{HoldsSides, HoldsTrips, HoldsCounts, HoldsFirsts};
 ghost use Rattle.paths.specs.Meets.{or_else, mark_at, Meets, HoldsMet, path_beyond, Feeding, Known};
 
+use network::Network;
+
 // The code of the near end of a line.
-fn near_code(net: &buffer::Net, sides: &[u64; 768], line: usize) -> usize
-    requires { Read (network_in net.now) × Rules (network_in net.now) × HoldsSides (network_in net.now) sides.now
+fn near_code(net: &Network, sides: &[u64; 768], line: usize) -> usize
+    requires { Read net.now × Rules net.now × HoldsSides net.now sides.now
         × LineThere net.now line }
-    ensures { (result ≡ end_code (near_end (network_in net.now) line)) × (result ≤ 1536) }
+    ensures { (result ≡ end_code (near_end net.now line)) × (result ≤ 1536) }
 {
     2 * line + sides[line - 1] as usize - 2
 }
 
 // The code of the far end of a line.
-fn far_code(net: &buffer::Net, sides: &[u64; 768], line: usize) -> usize
-    requires { Read (network_in net.now) × Rules (network_in net.now) × HoldsSides (network_in net.now) sides.now
+fn far_code(net: &Network, sides: &[u64; 768], line: usize) -> usize
+    requires { Read net.now × Rules net.now × HoldsSides net.now sides.now
         × LineThere net.now line }
-    ensures { (result ≡ end_code (far (near_end (network_in net.now) line))) × (result ≤ 1536) }
+    ensures { (result ≡ end_code (far (near_end net.now line))) × (result ≤ 1536) }
 {
     2 * line + 1 - sides[line - 1] as usize
 }
@@ -61,15 +62,15 @@ fn met_from(marks: &[u64; 1537], code: usize, beyond: Met) -> Met
 
 // What the path of the station meets that a line feeds; that of an HV station where the line is 0.
 fn met_beyond(
-    net: &buffer::Net,
+    net: &Network,
     sides: &[u64; 768],
     marks: &[u64; 1537],
     firsts: &[u64],
     counts: &[u64],
     line: usize,
 ) -> Met
-    requires { Feeding (network_in net.now) marks.now sides.now firsts.now counts.now line }
-    ensures met { Meets marks.now (path_beyond (network_in net.now) line) result }
+    requires { Feeding net.now marks.now sides.now firsts.now counts.now line }
+    ensures met { Meets marks.now (path_beyond net.now line) result }
     ensures few { result.count ≤ 4000 }
 {
     if line == 0 {
@@ -84,7 +85,7 @@ fn met_beyond(
 
 // What the path of a line meets, where the buffers have that of the line that feeds it.
 fn line_met(
-    net: &buffer::Net,
+    net: &Network,
     sides: &[u64; 768],
     feeders: &[u64; 768],
     marks: &[u64; 1537],
@@ -92,8 +93,8 @@ fn line_met(
     counts: &[u64],
     line: usize,
 ) -> Met
-    requires { Known (network_in net.now) marks.now sides.now feeders.now firsts.now counts.now line }
-    ensures { Meets marks.now (route (network_in net.now) line) result }
+    requires { Known net.now marks.now sides.now feeders.now firsts.now counts.now line }
+    ensures { Meets marks.now (route net.now line) result }
 {
     let feeder = feeders[line - 1] as usize;
     let beyond = met_beyond(net, sides, marks, firsts, counts, feeder);
@@ -102,7 +103,7 @@ fn line_met(
 
 // What the path of each line meets, from the HV stations outwards.
 fn met_outwards(
-    net: &buffer::Net,
+    net: &Network,
     sides: &[u64; 768],
     feeders: &[u64; 768],
     order: &[u64; 768],
@@ -110,12 +111,12 @@ fn met_outwards(
     firsts: &mut [u64],
     counts: &mut [u64],
 )
-    requires read { Read (network_in net.now) × Rules (network_in net.now)
-        × Outwards (network_in net.now) sides.now feeders.now order.now }
+    requires read { Read net.now × Rules net.now
+        × Outwards net.now sides.now feeders.now order.now }
     requires firsts_len { (length firsts.old ≡ 768) × (length counts.old ≡ 768) }
-    ensures { HoldsMet (network_in net.now) marks.now firsts.new counts.new }
+    ensures { HoldsMet net.now marks.now firsts.new counts.new }
 {
-    for i in 0..buffer::line_count(net) {
+    for i in 0..net.line_count() {
         let line = order[i] as usize;
         let met = line_met(net, sides, feeders, marks, firsts, counts, line);
         firsts[line - 1] = met.first;
@@ -125,17 +126,17 @@ fn met_outwards(
 
 // The code of the breaker that trips for each line, and how many breakers are on its path.
 pub fn fill_trips(
-    net: &buffer::Net,
+    net: &Network,
     sides: &[u64; 768],
     feeders: &[u64; 768],
     order: &[u64; 768],
     trips: &mut [u64; 768],
     counts: &mut [u64; 768],
 )
-    requires { Read (network_in net.now) × Rules (network_in net.now)
-        × Outwards (network_in net.now) sides.now feeders.now order.now }
-    ensures trips { HoldsTrips (network_in net.now) trips.new }
-    ensures counts { HoldsCounts (network_in net.now) counts.new }
+    requires { Read net.now × Rules net.now
+        × Outwards net.now sides.now feeders.now order.now }
+    ensures trips { HoldsTrips net.now trips.new }
+    ensures counts { HoldsCounts net.now counts.new }
 {
     let mut breakers = marks::space();
     marks::fill_breakers(net, &mut breakers);
@@ -144,17 +145,17 @@ pub fn fill_trips(
 
 // The first place on the path of each line, by the marks of the places.
 pub fn fill_firsts(
-    net: &buffer::Net,
+    net: &Network,
     sides: &[u64; 768],
     feeders: &[u64; 768],
     order: &[u64; 768],
     places: &[u64; 1537],
     firsts: &mut [u64; 768],
 )
-    requires { Read (network_in net.now) × Rules (network_in net.now)
-        × Outwards (network_in net.now) sides.now feeders.now order.now
-        × HoldsPlaces (network_in net.now) places.now }
-    ensures { HoldsFirsts (network_in net.now) firsts.new }
+    requires { Read net.now × Rules net.now
+        × Outwards net.now sides.now feeders.now order.now
+        × HoldsPlaces net.now places.now }
+    ensures { HoldsFirsts net.now firsts.new }
 {
     let mut counts = tree::lines_space();
     met_outwards(net, sides, feeders, order, places, firsts, &mut counts);
@@ -175,15 +176,15 @@ fn first_from(marks: &[u64; 1537], code: usize, beyond: u64) -> u64
 
 // The first mark on the path of the station that a line feeds: that on the line's far end, else the first on the line's path.
 pub fn first_beyond(
-    net: &buffer::Net,
+    net: &Network,
     sides: &[u64; 768],
     marks: &[u64; 1537],
     firsts: &[u64; 768],
     line: usize,
 ) -> u64
-    requires { Read (network_in net.now) × Rules (network_in net.now) × HoldsSides (network_in net.now) sides.now
+    requires { Read net.now × Rules net.now × HoldsSides net.now sides.now
         × LineThere net.now line }
-    ensures { result ≡ or_else (mark_at marks.now (far (near_end (network_in net.now) line)))
+    ensures { result ≡ or_else (mark_at marks.now (far (near_end net.now line)))
         (get_or firsts.now (line - 1) 0) }
 {
     first_from(marks, far_code(net, sides, line), firsts[line - 1])

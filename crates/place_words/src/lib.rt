@@ -1,120 +1,133 @@
-// Why a place was refused with 3, in words. A function says nothing, and answers `at`, where what it looks for is right.
+// Why a place was refused with 3, in words.
 #![tactic(auto)]
 
-// The end that a place names.
-fn put_end(out: &mut [u8], at: usize, place: &[u8]) -> usize {
-    let mut to = words::put(out, at, b"line ");
-    to = words::put_number(out, to, file_parts::number_of(place, 1));
-    to = words::put(out, to, b", end ");
-    words::put_number(out, to, file_parts::number_of(place, 2))
+ghost use Rattle.std.specs.Prelude.{◌≤◌};
+
+use file_parts::{Announced, Record};
+use std::cmp::Ordering;
+use std::fmt;
+
+// An end, 1 or 2, of a line that a file can have.
+#[derive(Clone, Copy, Debug, PartialEq, Eq, PartialOrd, Ord)]
+struct End {
+    line: u64,
+    side: u64,
+    ghost few_lines: { line ≤ 768 },
+    ghost two_sides: { side ≤ 2 },
 }
 
-// Whether a place names an end that a file can have.
-fn names_end(place: &[u8]) -> bool {
-    file_parts::number_of(place, 1) <= 768 && file_parts::number_of(place, 2) <= 2
-}
-
-// Says that two places name the same end.
-fn explain_twice(place: &[u8], out: &mut [u8], at: usize) -> usize {
-    let mut to = words::put(out, at, b"it names ");
-    to = put_end(out, to, place);
-    words::put(
-        out,
-        to,
-        b", as the record before it does; delete one of the two.",
-    )
-}
-
-// Says that a place, the first one at record `first`, does not come after the one before it.
-fn explain_order(file: &[u8], record: u64, first: u64, out: &mut [u8], at: usize) -> usize {
-    if record <= first {
-        return at;
-    }
-    let place = file_parts::record_of(file, record);
-    let before = file_parts::record_of(file, record - 1);
-    if !names_end(before) {
-        return at;
-    }
-    let line = file_parts::number_of(place, 1);
-    let line_before = file_parts::number_of(before, 1);
-    if line_before < line {
-        return at;
-    }
-    if line_before == line {
-        if file_parts::number_of(before, 2) < file_parts::number_of(place, 2) {
-            return at;
-        }
-        if file_parts::number_of(before, 2) == file_parts::number_of(place, 2) {
-            return explain_twice(place, out, at);
+impl End {
+    // The end that a place names, if a file can have it.
+    fn named_by(place: Record<'_>) -> Option<End> {
+        match (place.number(1)?, place.number(2)?) {
+            (line @ 1..=768, side @ 1..=2) => Some(End { line, side }),
+            _ => None,
         }
     }
-    let mut to = words::put(out, at, b"it names ");
-    to = put_end(out, to, place);
-    to = words::put(out, to, b", but the record before it names ");
-    to = put_end(out, to, before);
-    words::put(out, to, b"; sort the places by line, then by end.")
 }
 
-// What an end of this state has or is.
-fn put_state(out: &mut [u8], at: usize, state: u64) -> usize {
-    if state == 1 {
-        return words::put(out, at, b", which has a breaker already (state");
+impl fmt::Display for End {
+    fn fmt<W: fmt::Write>(&self, f: &mut fmt::Formatter<W>) -> fmt::Result {
+        let End { line, side } = *self;
+        write!(f, "line {line}, end {side}")
     }
-    words::put(out, at, b", which is kept open (state")
 }
 
-// Says that the end of a place has a state other than plain, in the record of its line.
-fn explain_taken(place: &[u8], record: u64, state: u64, out: &mut [u8], at: usize) -> usize {
-    let mut to = words::put(out, at, b"it names ");
-    to = put_end(out, to, place);
-    to = put_state(out, to, state);
-    to = words::put_number(out, to, file_parts::number_of(place, 2));
-    to = words::put(out, to, b" of record ");
-    to = words::put_number(out, to, record);
-    words::put(out, to, b"); delete this place or correct that record.")
+// What an end has or is that can get no breaker.
+#[derive(Clone, Copy, Debug, PartialEq, Eq)]
+enum Taken {
+    Breaker,
+    Open,
 }
 
-// Says that the end of a place has a breaker or is open.
-fn explain_state(file: &[u8], place: &[u8], out: &mut [u8], at: usize) -> usize {
-    let due = file_parts::due_at(file, 1);
-    let stations = due.stations;
-    let line = file_parts::number_of(place, 1);
-    let end = file_parts::number_of(place, 2);
-    if 768 < line {
-        return at;
+impl fmt::Display for Taken {
+    fn fmt<W: fmt::Write>(&self, f: &mut fmt::Formatter<W>) -> fmt::Result {
+        f.write_str(match self {
+            Taken::Breaker => "has a breaker already",
+            Taken::Open => "is kept open",
+        })
     }
-    if 2 < end {
-        return at;
-    }
-    let record = 1 + stations + line;
-    let state = file_parts::number_of(file_parts::record_of(file, record), 3 + end);
-    if state == 1 || state == 2 {
-        return explain_taken(place, record, state, out, at);
-    }
-    at
 }
 
-// Says why a place was refused.
-pub fn explain_place(file: &[u8], record: u64, out: &mut [u8], at: usize) -> usize {
-    let due = file_parts::due_at(file, 1);
-    let first = 2 + due.stations + due.lines;
-    if record < first || file_parts::ends_before(file, record) {
-        return at;
+// What is wrong with a place.
+#[derive(Clone, Copy, Debug, PartialEq, Eq)]
+enum Fault {
+    // it is the 65th
+    TooMany,
+    // it names the end that the record before it names
+    Twice { end: End },
+    // it names an end that comes before the one that the record before it names
+    Unsorted { end: End, before: End },
+    // its end is not plain in the record of its line
+    NotPlain { end: End, taken: Taken, record: u64 },
+}
+
+// How a place is out of order behind one that names the end `before`.
+fn order_fault(end: End, before: End) -> Option<Fault> {
+    match before.cmp(&end) {
+        Ordering::Less => None,
+        Ordering::Equal => Some(Fault::Twice { end }),
+        Ordering::Greater => Some(Fault::Unsorted { end, before }),
     }
-    if 63 < record - first {
-        return words::put(
-            out,
-            at,
-            b"it is the 65th place, and a file has at most 64; delete this place or another.",
-        );
+}
+
+// How the end of a place is not plain.
+fn state_fault(file: &[u8], announced: Announced, end: End) -> Option<Fault> {
+    let record = 1 + announced.stations + end.line;
+    let field = 3 + end.side as usize;
+    let taken = match Record::find(file, record)?.number(field)? {
+        1 => Taken::Breaker,
+        2 => Taken::Open,
+        _ => return None,
+    };
+    Some(Fault::NotPlain { end, taken, record })
+}
+
+// Why a place was refused.
+#[derive(Clone, Copy, Debug, PartialEq, Eq)]
+pub struct WrongPlace(Fault);
+
+impl WrongPlace {
+    // What is wrong with the place at a record of a file.
+    pub fn find(file: &[u8], record: u64) -> Option<Self> {
+        let announced = Announced::by(file);
+        let place = Record::find(file, record)?;
+        let places_before = record.checked_sub(announced.first_place())?;
+        if places_before > 63 {
+            return Some(WrongPlace(Fault::TooMany));
+        }
+        let end = End::named_by(place)?;
+        let before = if places_before > 0 {
+            Record::find(file, record - 1).and_then(End::named_by)
+        } else {
+            None
+        };
+        before
+            .and_then(|before| order_fault(end, before))
+            .or_else(|| state_fault(file, announced, end))
+            .map(WrongPlace)
     }
-    let place = file_parts::record_of(file, record);
-    if !names_end(place) {
-        return at;
+}
+
+impl fmt::Display for WrongPlace {
+    fn fmt<W: fmt::Write>(&self, f: &mut fmt::Formatter<W>) -> fmt::Result {
+        match self.0 {
+            Fault::TooMany => f.write_str(
+                "it is the 65th place, and a file has at most 64; delete this place or another.",
+            ),
+            Fault::Twice { end } => write!(
+                f,
+                "it names {end}, as the record before it does; delete one of the two."
+            ),
+            Fault::Unsorted { end, before } => write!(
+                f,
+                "it names {end}, but the record before it names {before}; sort the places by line, then by end."
+            ),
+            Fault::NotPlain { end, taken, record } => write!(
+                f,
+                "it names {end}, which {taken} (state{} of record {record}); delete this place or correct that record.",
+                end.side
+            ),
+        }
     }
-    let to = explain_order(file, record, first, out, at);
-    if at < to {
-        return to;
-    }
-    explain_state(file, place, out, at)
 }

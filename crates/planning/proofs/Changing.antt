@@ -16,12 +16,10 @@ use Rattle.theory.specs.Reading.{Read}
 use Rattle.theory.specs.Radial.{Rules}
 use Rattle.theory.specs.Best.{Accepted, member-place, set-valid}
 use Rattle.theory.specs.With.{with_read, with-rules}
-use Rattle.buffer.specs.Buffer.{network_in}
-use Rattle.buffer.specs.Fits.{PlaceThere, EndThere}
-use Rattle.network_changes.specs.Changed.{with_state, breaker-is-state}
+use Rattle.network.specs.There.{PlaceThere, EndThere}
+use Rattle.network.specs.Changed.{with_state, breaker-is-state}
 use Rattle.tree.specs.Outwards.{first_end, near_end, second_line, feeder, Outwards}
 use Rattle.outage.specs.Held.{HoldsCustomers}
-use Rattle.tree.proofs.Fitting.{read_fits}
 use Rattle.marks.proofs.Marking.{place-fits}
 
 -- breakers change no place
@@ -31,35 +29,34 @@ places_same [] N = refl
 places_same (p ∷ S) N = places_same S (with_breaker N (place_at N p))
 
 -- a buffer with the breakers of a set's first i members, and the next member
-module _ (N : Network) (set : List ℕ) (count : ℕ) (x : Read N × (length set ≡ 16) × (count ≤ 16) × Sublistᴰ (take count set) (place_numbers N)) (b : List ℕ) (i : ℕ) (e : network_in b ≡ with_breakers N (take i set)) (h : i < count) where
+module _ (N : Network) (set : List ℕ) (count : ℕ) (x : Read N × (length set ≡ 16) × (count ≤ 16) × Sublistᴰ (take count set) (place_numbers N)) (b : Network) (i : ℕ) (e : b ≡ with_breakers N (take i set)) (h : i < count) where
   abbrev p : ℕ
   p = get_or set i 0
 
-  read : Read (network_in b)
+  read : Read b
   read = subst Read (sym e) (with_read (take i set) N x.0)
 
   pub place-there : PlaceThere b p
   place-there =
       let m = member-place N set count (omega (arith, x.1, x.2)) x.3 i h in record {
-        fits = read_fits (network_in b) read;
         low = m.0;
         high = subst (λ ps. p ≤ length ps) (sym (ap (λ (M : Network). M.places) e ∙ places_same (take i set) N)) m.1;
       }
 
-  module _ {line side : ℕ} (f : line ≡ (place_at (network_in b) p).line) (g : side ≡ (place_at (network_in b) p).side) where
+  module _ {line side : ℕ} (f : line ≡ (place_at b p).line) (g : side ≡ (place_at b p).side) where
     pub end-there : EndThere b line side
     end-there =
-        let o = place-fits (network_in b) read p place-there.low place-there.high in record {
-          line = record { fits = place-there.fits; low = omega (arith, f, o.line.low); high = omega (arith, f, o.line.high) };
+        let o = place-fits b read p place-there.low place-there.high in record {
+          line = record { low = omega (arith, f, o.line.low); high = omega (arith, f, o.line.high) };
           first = omega (arith, g, o.side.low);
           second = omega (arith, g, o.side.high);
         }
 
     -- its breaker is added
-    pub one_more : {M : Network} → M ≡ with_state (network_in b) line side 1 → M ≡ with_breakers N (take (i + 1) set)
+    pub one_more : {M : Network} → M ≡ with_state b line side 1 → M ≡ with_breakers N (take (i + 1) set)
     unfolding with_breakers
     one_more w =
-        w ∙ (λ j. with_state (network_in b) (f j) (g j) 1) ∙ sym (breaker-is-state (network_in b) (place_at (network_in b) p))
+        w ∙ (λ j. with_state b (f j) (g j) 1) ∙ sym (breaker-is-state b (place_at b p))
         ∙ ap (λ (M : Network). with_breaker M (place_at M p)) e
         ∙ sym (with_breakers-append (take i set) (p ∷ []) N)
         ∙ ap (with_breakers N) (sym (ap (λ n. take n set) (add-one i) ∙ take-suc set i 0 (omega (arith, x.1, x.2, h))))
@@ -90,22 +87,22 @@ module _ (M N : Network) (s : Same M N) where
   customers-same sums c l a b = c l a (in_both b) ∙ sym (customers_behind-same M N s (near_end M l) ∙ ap (customers_behind N) (near_end-same l))
 
 -- a buffer that holds an accepted network with a set's breakers
-module _ (N : Network) (a : Accepted N) (S : List ℕ) (s : Sublistᴰ S (place_numbers N)) (b : List ℕ) (e : network_in b ≡ with_breakers N S) where
-  same : Same (network_in b) N
+module _ (N : Network) (a : Accepted N) (S : List ℕ) (s : Sublistᴰ S (place_numbers N)) (b : Network) (e : b ≡ with_breakers N S) where
+  same : Same b N
   same = subst (λ M. Same M N) (sym e) (with_breakers-same S N (set-valid N a s))
 
-  pub read-still : Read (network_in b)
+  pub read-still : Read b
   read-still = subst Read (sym e) (with_read S N a.read)
 
-  pub rules-still : Rules (network_in b)
+  pub rules-still : Rules b
   rules-still = subst Rules (sym e) (with-rules N a.read a.rules S (set-valid N a s))
 
-  pub outwards-still : {sides feeders order : List ℕ} → Outwards N sides feeders order → Outwards (network_in b) sides feeders order
-  outwards-still = outwards-same (network_in b) N same
+  pub outwards-still : {sides feeders order : List ℕ} → Outwards N sides feeders order → Outwards b sides feeders order
+  outwards-still = outwards-same b N same
 
-  pub customers-still : (sums : List ℕ) → HoldsCustomers N sums → HoldsCustomers (network_in b) sums
-  customers-still = customers-same (network_in b) N same
+  pub customers-still : (sums : List ℕ) → HoldsCustomers N sums → HoldsCustomers b sums
+  customers-still = customers-same b N same
 
-  pub total-still : {t : ℕ} → t ≡ total (network_in b) → t ≡ set_total N S
+  pub total-still : {t : ℕ} → t ≡ total b → t ≡ set_total N S
   unfolding set_total
   total-still h = h ∙ ap total e

@@ -8,7 +8,6 @@
 ghost use Rattle.std.specs.Prelude.{◌≡◌, [], ◌∷◌, ◌++◌, map, ◌+◌, ◌*◌, ◌≤◌, length, take};
 ghost use Rattle.model.specs.Sets.{place_numbers, set_total, saving};
 ghost use Rattle.savings.specs.Breakers.{end_at};
-ghost use Rattle.buffer.specs.Buffer.{network_in};
 ghost use Rattle.tree.specs.Linked.{end_code};
 ghost use Rattle.outage.specs.Held.{HoldsCustomers};
 ghost use Rattle.sets.specs.Sets.{upstream_at, weight_at, in_series_at};
@@ -19,10 +18,11 @@ ghost use Rattle.prospects.specs.Changes.{Put, Keeping, Undone};
 ghost use Rattle.prospects.specs.Chosen.{Later, Entering, Entered, OwnNow, Tables};
 
 use amounts::{Customers, Total, Weight};
+use network::Network;
 
 // The code of the breaker upstream of a place, with the breakers of the set.
 fn upstream_of(
-    net: &buffer::Net,
+    net: &Network,
     relations: &[u64; 4225],
     ends: &[u64; 65],
     outlook: &[u64; 195],
@@ -31,10 +31,10 @@ fn upstream_of(
     pending: usize,
     place: usize,
 ) -> u64
-    requires later { Later (network_in net.now) relations.now outlook.now (take size set.now) pending place }
-    requires coded { HoldsEnds (network_in net.now) ends.now }
-    ensures { result ≡ end_code (upstream_at (network_in net.now) (take size set.now)
-        (end_at (network_in net.now) place)) }
+    requires later { Later net.now relations.now outlook.now (take size set.now) pending place }
+    requires coded { HoldsEnds net.now ends.now }
+    ensures { result ≡ end_code (upstream_at net.now (take size set.now)
+        (end_at net.now place)) }
 {
     let upstream = outlook[place];
     if relations[pending * 65 + place] == 1 && upstream == outlook[pending] {
@@ -45,7 +45,7 @@ fn upstream_of(
 
 // The weight of a place, with the breakers of the set.
 fn weight_of(
-    net: &buffer::Net,
+    net: &Network,
     relations: &[u64; 4225],
     outlook: &[u64; 195],
     set: &[u64; 16],
@@ -53,9 +53,9 @@ fn weight_of(
     pending: usize,
     place: usize,
 ) -> u64
-    requires { Later (network_in net.now) relations.now outlook.now (take size set.now) pending place }
-    ensures { result ≡ weight_at (network_in net.now) (take size set.now)
-        (end_at (network_in net.now) place) }
+    requires { Later net.now relations.now outlook.now (take size set.now) pending place }
+    ensures { result ≡ weight_at net.now (take size set.now)
+        (end_at net.now place) }
 {
     let weight = outlook[65 + place];
     let above = relations[pending * 65 + place] == 2;
@@ -67,7 +67,7 @@ fn weight_of(
 
 // The most breakers in series with a place, with the breakers of the set.
 pub fn in_series_of(
-    net: &buffer::Net,
+    net: &Network,
     relations: &[u64; 4225],
     outlook: &[u64; 195],
     set: &[u64; 16],
@@ -75,9 +75,9 @@ pub fn in_series_of(
     pending: usize,
     place: usize,
 ) -> u64
-    requires { Later (network_in net.now) relations.now outlook.now (take size set.now) pending place }
-    ensures { result ≡ in_series_at (network_in net.now) (take size set.now)
-        (end_at (network_in net.now) place) }
+    requires { Later net.now relations.now outlook.now (take size set.now) pending place }
+    ensures { result ≡ in_series_at net.now (take size set.now)
+        (end_at net.now place) }
 {
     let in_series = outlook[130 + place];
     let relation = relations[pending * 65 + place];
@@ -116,7 +116,7 @@ fn keep(outlook: &[u64; 195], rows: &mut [u64; 3120], start: usize, place: usize
 // Makes the outlook of the set without its last member the set's own: only the numbers of the places that the member is related to
 // change, and they are kept in row `size`.
 fn enter(
-    net: &buffer::Net,
+    net: &Network,
     relations: &[u64; 4225],
     ends: &[u64; 65],
     lists: &[u64; 4225],
@@ -126,9 +126,9 @@ fn enter(
     size: usize,
     last: usize,
 )
-    requires { Entering (network_in net.now) relations.now ends.now lists.now
+    requires { Entering net.now relations.now ends.now lists.now
         outlook.old rows.old (take size set.now) size last }
-    ensures { Entered (network_in net.now) lists.now (take size set.now) size last
+    ensures { Entered net.now lists.now (take size set.now) size last
         outlook.old outlook.new rows.old rows.new }
 {
     let start = size * 195;
@@ -145,7 +145,7 @@ fn enter(
 
 // The outlook becomes the set's own, if it is still that of the set without its last member, which is then `pending`.
 pub fn enter_once(
-    net: &buffer::Net,
+    net: &Network,
     relations: &[u64; 4225],
     ends: &[u64; 65],
     lists: &[u64; 4225],
@@ -156,9 +156,9 @@ pub fn enter_once(
     pending: usize,
 )
     requires { (pending ≡ 0 → ⊥)
-        → Entering (network_in net.now) relations.now ends.now lists.now
+        → Entering net.now relations.now ends.now lists.now
         outlook.old rows.old (take size set.now) size pending }
-    ensures { OwnNow (network_in net.now) lists.now (take size set.now) size pending
+    ensures { OwnNow net.now lists.now (take size set.now) size pending
         outlook.old outlook.new rows.old rows.new }
 {
     if pending != 0 {
@@ -196,7 +196,7 @@ pub fn leave(
 
 // How much the total of the set falls with one more place.
 pub fn fall(
-    net: &buffer::Net,
+    net: &Network,
     relations: &[u64; 4225],
     ends: &[u64; 65],
     sums: &[u64; 768],
@@ -206,13 +206,13 @@ pub fn fall(
     pending: usize,
     place: usize,
 ) -> Total
-    requires { Later (network_in net.now) relations.now outlook.now (take size set.now) pending place
-        × HoldsEnds (network_in net.now) ends.now × HoldsCustomers (network_in net.now) sums.now }
-    ensures { result.0 + set_total (network_in net.now) (take size set.now ++ (place ∷ []))
-        ≡ set_total (network_in net.now) (take size set.now) }
+    requires { Later net.now relations.now outlook.now (take size set.now) pending place
+        × HoldsEnds net.now ends.now × HoldsCustomers net.now sums.now }
+    ensures { result.0 + set_total net.now (take size set.now ++ (place ∷ []))
+        ≡ set_total net.now (take size set.now) }
 {
     let upstream = upstream_of(net, relations, ends, outlook, set, size, pending, place) as usize;
-    let line = grid::place_line(net, place);
+    let line = net.place_line(place);
     let spared = sums[(upstream + 1) / 2 - 1] - sums[line - 1];
     let weight = weight_of(net, relations, outlook, set, size, pending, place);
     amounts::times(Weight::new(weight), Customers::new(spared))
@@ -220,22 +220,22 @@ pub fn fall(
 
 // The saving of each place: how much the file's total falls with its breaker alone.
 pub fn savings_of(
-    net: &buffer::Net,
+    net: &Network,
     relations: &[u64; 4225],
     ends: &[u64; 65],
     sums: &[u64; 768],
     outlook: &[u64; 195],
     savings: &mut [u64; 64],
 )
-    requires tables { Tables (network_in net.now) relations.now ends.now sums.now }
-    requires start { Outlook (network_in net.now) [] 1 outlook.now }
+    requires tables { Tables net.now relations.now ends.now sums.now }
+    requires start { Outlook net.now [] 1 outlook.now }
     requires room { length savings.old ≡ 64 }
     ensures long { length savings.new ≡ 64 }
-    ensures rows { take (length (network_in net.now).places) savings.new
-        ≡ map (λ p. saving (network_in net.now) p) (place_numbers (network_in net.now)) }
+    ensures rows { take (length net.now.places) savings.new
+        ≡ map (λ p. saving net.now p) (place_numbers net.now) }
 {
     let none = [0u64; 16];
-    for i in 0..buffer::place_count(net) {
+    for i in 0..net.place_count() {
         savings[i] = fall(net, relations, ends, sums, outlook, &none, 0, 0, i + 1).number();
     }
 }

@@ -1,5 +1,5 @@
 -- What the loops over the stations' labels keep: the station's own numbers, a label renamed, the labels of HV stations marked.
-use Rattle.std.specs.Prelude.{ℕ, ◌+◌, ◌≤◌, ◌<◌, ◌≡◌, refl, Bool, true, false, not, ◌≢◌, List, length, get_or, set}
+use Rattle.std.specs.Prelude.{ℕ, zero, suc, replicate, ◌+◌, ◌≤◌, ◌<◌, ◌≡◌, refl, Bool, true, false, ◌≢◌, List, length, get_or, set}
 use Rattle.std.proofs.Common.{sym, ap, ◌∙◌, subst, true≢false, arith, length-set, get_or-set_same, get_or-set_other}
 use Rattle.std.proofs.Math.Decide.{ℕ_discrete, dec_lt}
 use Rattle.model.specs.Network.{Network}
@@ -44,10 +44,10 @@ module _ {x y i : ℕ} {before labels : List ℕ} (r : Renamed x y i before labe
       go k b (no e) = get_or-set_other labels i k y 0 e ∙ r.done k (omega arith)
 
 -- of the stations before s, the labels of the HV stations are marked by 1, and no others
-pub record Marked (N : Network) (labels : List ℕ) (s : ℕ) (marks : List ℕ) : Type 0 where
+pub record Marked (N : Network) (labels : List ℕ) (s : ℕ) (marks : List Bool) : Type 0 where
   pub long : length marks ≡ 513
-  pub on : (h : ℕ) → h < s → is_hv N h ≡ true → get_or marks (label_of labels h) 0 ≡ 1
-  pub back : (x : ℕ) → get_or marks x 0 ≡ 1 → (h : ℕ) × (h < s) × (is_hv N h ≡ true) × (label_of labels h ≡ x)
+  pub on : (h : ℕ) → h < s → is_hv N h ≡ true → get_or marks (label_of labels h) false ≡ true
+  pub back : (x : ℕ) → get_or marks x false ≡ true → (h : ℕ) × (h < s) × (is_hv N h ≡ true) × (label_of labels h ≡ x)
 
 -- of the stations before s, no two HV stations have one label
 pub record Apart (N : Network) (labels : List ℕ) (s : ℕ) : Type 0 where
@@ -66,7 +66,7 @@ module _ {N : Network} {labels : List ℕ} {s : ℕ} where
   pub apart-skip : Apart N labels s → is_hv N s ≡ false → Apart N labels (s + 1)
   apart-skip a q = record { differ = λ g h b c p r. a.differ g h b (not_last N s h q c r) p r }
 
-  module _ {marks : List ℕ} (m : Marked N labels s marks) where
+  module _ {marks : List Bool} (m : Marked N labels s marks) where
     pub marked-skip : is_hv N s ≡ false → Marked N labels (s + 1) marks
     marked-skip q = record {
       long = m.long;
@@ -76,38 +76,43 @@ module _ {N : Network} {labels : List ℕ} {s : ℕ} where
 
     -- the label of station s
     module _ {x : ℕ} (e : x ≡ label_of labels s) where
-      pub marked-set : is_hv N s ≡ true → x ≤ 512 → Marked N labels (s + 1) (set marks x 1)
+      pub marked-set : is_hv N s ≡ true → x ≤ 512 → Marked N labels (s + 1) (set marks x true)
       marked-set q l = record {
-        long = length-set marks x 1 ∙ m.long;
+        long = length-set marks x true ∙ m.long;
         on = λ h b p. on h b p (ℕ_discrete (label_of labels h) x);
         back = λ y r. back y r (ℕ_discrete y x);
       }
         where
-          on : (h : ℕ) → h < s + 1 → is_hv N h ≡ true → Dec (label_of labels h ≡ x) → get_or (set marks x 1) (label_of labels h) 0 ≡ 1
-          on h b p (yes t) = ap (λ n. get_or (set marks x 1) n 0) t ∙ get_or-set_same marks x 1 0 (omega (arith, m.long))
-          on h b p (no t) = get_or-set_other marks x (label_of labels h) 1 0 t ∙ m.on h (go (ℕ_discrete h s)) p
+          on : (h : ℕ) → h < s + 1 → is_hv N h ≡ true → Dec (label_of labels h ≡ x) → get_or (set marks x true) (label_of labels h) false ≡ true
+          on h b p (yes t) = ap (λ n. get_or (set marks x true) n false) t ∙ get_or-set_same marks x true false (omega (arith, m.long))
+          on h b p (no t) = get_or-set_other marks x (label_of labels h) true false t ∙ m.on h (go (ℕ_discrete h s)) p
             where
               go : Dec (h ≡ s) → h < s
               go (yes u) = absurd (t (ap (label_of labels) u ∙ sym e))
               go (no u) = omega arith
 
-          back : (y : ℕ) → get_or (set marks x 1) y 0 ≡ 1 → Dec (y ≡ x) → (h : ℕ) × (h < s + 1) × (is_hv N h ≡ true) × (label_of labels h ≡ y)
+          back : (y : ℕ) → get_or (set marks x true) y false ≡ true → Dec (y ≡ x) → (h : ℕ) × (h < s + 1) × (is_hv N h ≡ true) × (label_of labels h ≡ y)
           back y r (yes t) = (s, omega arith, q, sym e ∙ sym t)
-          back y r (no t) = let u = m.back y (sym (get_or-set_other marks x y 1 0 t) ∙ r) in (u.0, omega (arith, u.1), u.2, u.3)
+          back y r (no t) = let u = m.back y (sym (get_or-set_other marks x y true false t) ∙ r) in (u.0, omega (arith, u.1), u.2, u.3)
 
-      pub apart_next : Apart N labels s → get_or marks x 0 ≢ 1 → Apart N labels (s + 1)
+      pub apart_next : Apart N labels s → get_or marks x false ≡ false → Apart N labels (s + 1)
       apart_next a z = record { differ = λ g h b c p r. go g h b c p r (ℕ_discrete h s) }
         where
           go : (g h : ℕ) → g < h → h < s + 1 → is_hv N g ≡ true → is_hv N h ≡ true → Dec (h ≡ s) → label_of labels g ≢ label_of labels h
-          go g h b c p r (yes u) = λ t. z (ap (λ n. get_or marks n 0) (e ∙ sym (t ∙ ap (label_of labels) u)) ∙ m.on g (omega arith) p)
+          go g h b c p r (yes u) = λ t. true≢false (sym (m.on g (omega arith) p) ∙ ap (λ n. get_or marks n false) (sym (e ∙ sym (t ∙ ap (label_of labels) u))) ∙ z)
           go g h b c p r (no u) = a.differ g h b (omega arith) p r
 
+pub nowhere : (n x : ℕ) → get_or (replicate n false) x false ≡ false
+nowhere zero x = refl
+nowhere (suc n) zero = refl
+nowhere (suc n) (suc x) = nowhere n x
+
 module _ {N : Network} (d : Read N) where
-  pub marked_start : (labels marks : List ℕ) → length marks ≡ 513 → ((x : ℕ) → get_or marks x 0 ≡ 0) → Marked N labels 1 marks
+  pub marked_start : (labels : List ℕ) (marks : List Bool) → length marks ≡ 513 → ((x : ℕ) → get_or marks x false ≡ false) → Marked N labels 1 marks
   marked_start labels marks l z = record {
     long = l;
     on = λ h b p. absurd (omega (arith, (hv-in N d h p).0));
-    back = λ x e. absurd (omega (arith, e, z x));
+    back = λ x e. absurd (true≢false (sym e ∙ z x));
   }
 
   pub apart-start : (labels : List ℕ) → Apart N labels 1
@@ -119,7 +124,7 @@ module _ {N : Network} (d : Read N) where
     label-there s a b = (a, omega (arith, few-stations d), omega (arith, L.low s a b, few-stations d))
 
     -- a label marked before: two HV stations are joined
-    pub marked-joined : {s x : ℕ} {marks : List ℕ} → Marked N labels s marks → x ≡ label_of labels s → is_hv N s ≡ true → get_or marks x 0 ≡ 1 → true ≡ some_joined N
+    pub marked-joined : {s x : ℕ} {marks : List Bool} → Marked N labels s marks → x ≡ label_of labels s → is_hv N s ≡ true → get_or marks x false ≡ true → true ≡ some_joined N
     marked-joined {s} {x} m e q r =
         let t = m.back x r in
         sym ((labelled-joined N d labels L).1 (t.0, s, t.2, q, (λ p. omega (arith, p, t.1)), t.3 ∙ e))
@@ -135,16 +140,15 @@ module _ {N : Network} (d : Read N) where
         go true e = let j = (labelled-joined N d labels L).0 e in absurd (never j.0 j.1 j.2 j.3 j.4 j.5 (dec_lt j.0 j.1))
         go false e = refl
 
-    -- a station is supplied where its label is marked
-    module _ {marks : List ℕ} (m : Marked N labels (length N.stations + 1) marks) {s x : ℕ} (e : x ≡ label_of labels s) (a : 1 ≤ s) (b : s ≤ length N.stations) where
-      pub marked-supplied : get_or marks x 0 ≡ 1 → not (is_supplied N s) ≡ false
-      marked-supplied r = let t = m.back x r in ap not ((labelled-supplied N d labels L s a b).1 (t.0, t.2, sym (t.3 ∙ e)))
-
-      pub unmarked-unsupplied : get_or marks x 0 ≢ 1 → not (is_supplied N s) ≡ true
-      unmarked-unsupplied z = go (is_supplied N s) refl
+    -- a station is supplied just where its label is marked
+    module _ {marks : List Bool} (m : Marked N labels (length N.stations + 1) marks) {s x : ℕ} (e : x ≡ label_of labels s) (a : 1 ≤ s) (b : s ≤ length N.stations) where
+      pub marked-is : get_or marks x false ≡ is_supplied N s
+      marked-is = go (is_supplied N s) refl (get_or marks x false) refl
         where
-          go : (b : Bool) → is_supplied N s ≡ b → not b ≡ true
-          go true q =
+          go : (b : Bool) → is_supplied N s ≡ b → (m' : Bool) → get_or marks x false ≡ m' → m' ≡ b
+          go true q true r = refl
+          go false q false r = refl
+          go false q true r = let t = m.back x r in absurd (true≢false (sym ((labelled-supplied N d labels L s a b).1 (t.0, t.2, sym (t.3 ∙ e))) ∙ q))
+          go true q false r =
               let t = (labelled-supplied N d labels L s a b).0 q in
-              absurd (z (ap (λ n. get_or marks n 0) (e ∙ t.2) ∙ m.on t.0 (omega (arith, (hv-in N d t.0 t.1).1)) t.1))
-          go false q = refl
+              absurd (true≢false (sym (m.on t.0 (omega (arith, (hv-in N d t.0 t.1).1)) t.1) ∙ sym (ap (λ n. get_or marks n false) (e ∙ t.2)) ∙ r))

@@ -2,9 +2,17 @@
 // of it for three first numbers of the record.
 #![tactic(auto)]
 
-ghost use Rattle.std.specs.Prelude.{◌<◌};
-
+use model::{Largest, Range};
+use ranges::{Context, Kind};
 use std::io;
+
+const KINDS: [Kind; 4] = [Kind::Head, Kind::Station, Kind::Line, Kind::Place];
+
+// What stands where a kind has no further field.
+const NONE: Range = Range {
+    least: 0,
+    largest: Largest::Number(0),
+};
 
 const VALUES: [u64; 32] = [
     0,
@@ -41,35 +49,37 @@ const VALUES: [u64; 32] = [
     18446744073709551615,
 ];
 
-fn show(rt: &impl Print, kind: usize, field: usize, first: u64) -> io::Result<()>
-    requires { (kind < 4) × (field < 8) }
-{
-    let values = VALUES;
-    for i in 0..32 {
-        let held = ranges::in_range(kind, field, values[i], 7, 5, first);
+fn show(rt: &impl Print, range: Range, context: Context) -> io::Result<()> {
+    for value in &VALUES {
+        let held = ranges::in_range(range, *value, context);
         print!(rt; "{}", u8::from(held))?;
     }
     println!(rt)
 }
 
-fn show_row(rt: &impl Print, kind: usize, first: u64) -> io::Result<()>
-    requires { kind < 4 }
-{
+fn show_kind(rt: &impl Print, kind: Kind, context: Context) -> io::Result<()> {
     for field in 0..8 {
-        show(rt, kind, field, first)?;
+        let range = kind.ranges().get(field).copied().unwrap_or(NONE);
+        show(rt, range, context)?;
     }
     Ok(())
 }
 
 fn show_table(rt: &impl Print, first: u64) -> io::Result<()> {
-    for kind in 0..4 {
-        show_row(rt, kind, first)?;
+    let context = Context {
+        stations: 7,
+        lines: 5,
+        first,
+    };
+    for kind in &KINDS {
+        show_kind(rt, *kind, context)?;
     }
     Ok(())
 }
 
 fn main(rt: HostRuntime) -> io::Result<()> {
-    show_table(&rt, 0)?;
-    show_table(&rt, 1)?;
-    show_table(&rt, 2)
+    for first in 0..3 {
+        show_table(&rt, first)?;
+    }
+    Ok(())
 }

@@ -1,4 +1,5 @@
+pub mod Ranged
 pub mod Placed
-pub mod Following
-pub mod InBuffer
+pub mod Turns
+pub mod Places
 pub mod Whole

@@ -1,23 +1,71 @@
--- The order of places, and the rule of places.
-use mathlib.Core.Path.{◌≡◌, sym}
-use mathlib.Core.Bool.{Bool, true, false, ◌&&◌, ◌||◌, and-false, and-eq-true_iff}
-use mathlib.Core.List.{List}
-use Prim.Native.Nat.{ℕ, ◌≤◌, ◌<◌}
-use lib.Dec.{ltb, eqb}
-use borrow.Author.Tests.{ltb-true, lt-ltb, le-ltb, eq-eqb, ne_eqb}
+-- The order of the places, and the rule of places.
+use mathlib.Core.Bool.{cond, and-eq-true_iff, and-false}
+use mathlib.Core.List.{map}
+use Prim.Native.Nat.{zero, suc}
+use native.Mathlib.Omega.{arith}
+use lib.ListN.{length-map}
+use lib.Seq.{get_or-append_seam}
+use borrow.Author.Tests.{ltb-true, lt-ltb, le-ltb}
+use Rattle.std.specs.Prelude.{◌≡◌, ℕ, ◌-◌, ◌≤◌, ◌<◌, Bool, true, false, ◌&&◌, ◌||◌, eqb, ltb, List, [], ◌∷◌, ◌++◌, length, get_or, None, Some, refl}
+use Rattle.std.specs.Ordering.{is_lt, is_some_and, nat_cmp, partial_ordering_then}
+use Rattle.std.specs.List.{slice_get}
+use Rattle.std.proofs.Common.{Less, Equal, Greater, ap, ap₂, sym, ◌∙◌}
 use Rattle.model.specs.Lists.{numbered}
-use Rattle.model.specs.Network.{Line, Place, no_line, state_at, comes_after, well_placed}
+use Rattle.model.specs.Network.{Line, Place, no_line, no_place, state_at, comes_after, well_placed}
+use Rattle.network.specs.declared.Place.{Place as Held}
+use Rattle.network.specs.declared.Side.{Side}
+use Rattle.network.specs.declared.Side.TheVariants.{One, Two}
+use Rattle.network.specs.View.{side_number, place_of_held}
+use Rattle.reader.specs.Reading.{last_place}
 
--- ── order ──
-module _ (a b c d : ℕ) where
-  pub line_before : a < b → true ≡ (ltb a b || (eqb a b && ltb c d))
-  line_before h = rw (lt-ltb a b h)
+by_line : (p q r s : Bool) → is_some_and is_lt (partial_ordering_then (Some (cond p Less (cond q Equal Greater))) (Some (cond r Less (cond s Equal Greater)))) ≡ (p || (q && r))
+by_line true q r s = refl
+by_line false true true s = refl
+by_line false true false true = refl
+by_line false true false false = refl
+by_line false false r s = refl
 
-  pub same_line : b ≤ a → a ≡ b → ltb c d ≡ (ltb a b || (eqb a b && ltb c d))
-  same_line h e = rw (le-ltb a b h, eq-eqb a b e)
+-- of two pairs of a line and an end, the lines decide, and then the ends
+pub pair-before : (b p : Held) (m n : ℕ) (r : Bool) → r ≡ is_some_and is_lt (partial_ordering_then (Some (nat_cmp b.line p.line)) (Some (nat_cmp m n)))
+    → m ≡ side_number b.side → n ≡ side_number p.side → r ≡ comes_after (place_of_held b) (place_of_held p)
+unfolding comes_after
+pair-before b p m n r e h k =
+    e
+    ∙ by_line (ltb b.line p.line) (eqb b.line p.line) (ltb m n) (eqb m n)
+    ∙ ap₂ (λ (i j : ℕ). ltb b.line p.line || (eqb b.line p.line && ltb i j)) h k
 
-  pub line-behind : b ≤ a → (a ≡ b → ⊥) → eqb a b ≡ (ltb a b || (eqb a b && ltb c d))
-  line-behind h n = rw (le-ltb a b h, ne_eqb a b n)
+-- ── the last place ──
+get_mapped : {A : Type 0} (f : A → Place) (xs : List A) (k : ℕ) (x : A) → slice_get xs k ≡ Some x → get_or (map f xs) k no_place ≡ f x
+get_mapped f [] k x e = cc
+get_mapped f (y ∷ xs) zero x e = let same : y ≡ x = cc in ap f same
+get_mapped f (y ∷ xs) (suc k) x e = get_mapped f xs k x e
+
+pub last_is : {A : Type 0} (f : A → Place) (xs : List A) (x : A) → slice_get xs (length xs - 1) ≡ Some x → last_place (map f xs) ≡ f x
+unfolding last_place
+last_is f xs x e = ap (λ n. get_or (map f xs) (n - 1) no_place) (length-map xs f) ∙ get_mapped f xs (length xs - 1) x e
+
+got : {A : Type 0} (xs : List A) (k : ℕ) → k < length xs → slice_get xs k ≡ None → ⊥
+got [] k h e = omega arith
+got (x ∷ xs) zero h e = cc
+got (x ∷ xs) (suc k) h e = got xs k (omega arith) e
+
+first_after : (line side cost hours : ℕ) → 1 ≤ side → comes_after no_place (record { line = line; side = side; cost = cost; hours = hours }) ≡ true
+unfolding comes_after
+first_after zero side cost hours h = lt-ltb 0 side h
+first_after (suc line) side cost hours h = ap (λ (b : Bool). b || (eqb 0 (suc line) && ltb 0 side)) (lt-ltb 0 (suc line) (omega arith))
+
+pub side-positive : (s : Side) → 1 ≤ side_number s
+side-positive One = omega arith
+side-positive Two = omega arith
+
+-- where there is no place yet, every place comes after
+pub first_of_all : {A : Type 0} (f : A → Place) (xs : List A) (p : Place) → slice_get xs (length xs - 1) ≡ None → 1 ≤ p.side → comes_after (last_place (map f xs)) p ≡ true
+unfolding last_place
+first_of_all f [] p e h = first_after p.line p.side p.cost p.hours h
+first_of_all f (x ∷ xs) p e h = absurd (got (x ∷ xs) (length (x ∷ xs) - 1) (omega arith) e)
+
+pub last_of_more : (ps : List Place) (p : Place) (n : ℕ) → n ≡ length ps → get_or (ps ++ p ∷ []) n no_place ≡ p
+last_of_more ps p n e = ap (λ m. get_or (ps ++ p ∷ []) m no_place) e ∙ get_or-append_seam ps p [] no_place
 
 -- ── the rule of places ──
 module _ (ls : List Line) (n : ℕ) (p q : Place) where

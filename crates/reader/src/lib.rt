@@ -1,178 +1,190 @@
-// The reader of a network file: its bytes to numbers, with the refusals 1 to 3.
+// The reader of a network file: its bytes to a network, with the refusals 1 to 3.
 #![tactic(auto)]
 
-ghost use Rattle.std.specs.Prelude.{◌≡◌, true, false, ◌+◌, ◌≤◌, ◌<◌, length, take, drop};
+ghost use Rattle.std.specs.Prelude.{◌≡◌, true, false, ◌+◌, ◌≤◌, ◌<◌, ◌^◌, [], length, map, IfOk, OnOk};
+ghost use Rattle.model.specs.Answer.{says};
 ghost use Rattle.model.specs.Format.{records_of};
-ghost use Rattle.model.specs.Network.{value, read_records, read_after_head, read_file, network_of, place_of, comes_after, well_placed};
-ghost use Rattle.buffer.specs.Buffer.{size, stations_at, lines_at, head_width, station_width, line_width, records_in, network_in};
-ghost use Rattle.buffer.specs.Fits.{EndThere};
-ghost use Rattle.records.specs.Kinds.{kind_at, next_record};
-ghost use Rattle.records.specs.Steps.{step_says, within};
-ghost use Rattle.reader.specs.Says.{read_says};
-ghost use Rattle.reader.specs.Places.{with_places_of};
+ghost use Rattle.model.specs.Network.{value, head_of, station_of, line_of, place_of, comes_after, well_placed, network_of};
+ghost use Rattle.network.specs.View.{role_number, state_number, side_number, station_of_held, line_of_held, place_of_held};
+ghost use Rattle.network.specs.There.{EndThere};
+ghost use Rattle.reader.specs.Reading.{head_says, left_says, says_of, first_head, more_stations, more_lines, more_places, last_place};
 
-use buffer::Net;
-use records::Step;
+use model::{Head, Refusal};
+use network::{Line, Network, PLACES, Place, Role, Side, State, Station};
+use ranges::Kind;
+use records::Records;
 
-// The network of the file is in the buffer, or the file is refused.
-#[derive(Clone, Copy)]
-pub enum ReadAnswer {
-    Read,
-    Refused { number: u64, record: u64 },
+// The role with a number.
+fn role_of(number: u64) -> Role
+    requires { number ≤ 1 }
+    ensures { role_number result ≡ number }
+{
+    match number {
+        0 => Role::Mv,
+        _ => Role::Hv,
+    }
+}
+
+// The state with a number.
+fn state_of(number: u64) -> State
+    requires { number ≤ 2 }
+    ensures { state_number result ≡ number }
+{
+    match number {
+        0 => State::Plain,
+        1 => State::Breaker,
+        _ => State::Open,
+    }
+}
+
+// The head that the numbers of a record say.
+fn head_of(row: &[u64]) -> Head
+    requires { length row.now ≡ 8 }
+    ensures { result ≡ head_of row.now }
+{
+    Head {
+        stations: row[0] as usize,
+        lines: row[1] as usize,
+        minutes: row[2],
+        series: row[3],
+        adds: row[4] as usize,
+        money: row[5],
+        hours: row[6],
+        visits: row[7],
+    }
+}
+
+// The station that they say.
+fn station_of(row: &[u64]) -> Station
+    requires { (length row.now ≡ 2) × (value row.now 0 ≤ 1) }
+    ensures { station_of_held result ≡ station_of row.now }
+{
+    Station {
+        role: role_of(row[0]),
+        customers: row[1],
+    }
+}
+
+// The line that they say.
+fn line_of(row: &[u64]) -> Line
+    requires { (length row.now ≡ 5) × (value row.now 3 ≤ 2) × (value row.now 4 ≤ 2) }
+    ensures { line_of_held result ≡ line_of row.now }
+{
+    Line {
+        weight: row[0],
+        from: row[1] as usize,
+        to: row[2] as usize,
+        state1: state_of(row[3]),
+        state2: state_of(row[4]),
+    }
+}
+
+// The place that they say.
+fn place_of(row: &[u64]) -> Place
+    requires { (length row.now ≡ 4) × (1 ≤ value row.now 1) × (value row.now 1 ≤ 2) }
+    ensures { place_of_held result ≡ place_of row.now }
+{
+    Place {
+        line: row[0] as usize,
+        side: Side::of(row[1] as usize),
+        cost: row[2],
+        hours: row[3],
+    }
 }
 
 // Whether a place comes after another by line, then end.
-fn comes_after(before: &[u64; 4], place: &[u64; 4]) -> bool
-    ensures { result ≡ comes_after (place_of before.now) (place_of place.now) }
+fn comes_after(before: &Place, place: &Place) -> bool
+    ensures { result ≡ comes_after (place_of_held before.now) (place_of_held place.now) }
 {
-    if before[0] < place[0] {
-        return true;
-    }
-    before[0] == place[0] && before[1] < place[1]
+    (before.line, before.side.number()) < (place.line, place.side.number())
 }
 
-// Whether a place may follow `n` places, the last of them `before`: it is not the 65th, comes after `before` and is on a plain end.
-fn well_placed(net: &Net, n: usize, before: &[u64; 4], place: &[u64; 4]) -> bool
-    requires { EndThere net.now (value place.now 0) (value place.now 1) }
-    ensures { result ≡ well_placed (network_in net.now).lines n
-        (place_of before.now) (place_of place.now) }
+// Whether a place comes after all of a list, of which the last comes last.
+fn comes_last(places: &[Place], place: &Place) -> bool
+    ensures { result ≡ comes_after (last_place (map place_of_held places.now)) (place_of_held place.now) }
 {
-    if 64 <= n {
-        return false;
+    match places.last() {
+        Some(last) => comes_after(last, place),
+        None => true,
     }
-    if !comes_after(before, place) {
-        return false;
-    }
-    grid::is_plain(net, place[0] as usize, place[1] as usize)
 }
 
-// Reads the places of a file whose head, stations and lines are in the buffer.
-fn read_places(file: &[u8], from: usize, net: &mut Net) -> ReadAnswer
-    requires { (from ≤ length file.now)
-        × (length (network_in net.old).stations ≤ 512) × (length (network_in net.old).lines ≤ 768) }
-    ensures { read_says result net.new
-        ≡ with_places_of (network_in net.old) (records_of (drop from file.now)) }
+// Whether a place may follow those of a network: it is not the 65th, comes after them and is on a plain end.
+fn well_placed(net: &Network, place: &Place) -> bool
+    requires { EndThere net.now place.now.line (side_number place.now.side) }
+    ensures { result ≡ well_placed net.now.lines (length net.now.places)
+        (last_place net.now.places) (place_of_held place.now) }
 {
-    network_changes::keep_places(net, 0);
-    let stations = buffer::station_count(net) as u64;
-    let lines = buffer::line_count(net) as u64;
-    let mut before = [0u64; 4];
-    let mut place = [0u64; 4];
-    let mut at = from;
-    while at < file.len() {
-        let n = buffer::place_count(net);
-        let i = 2 + stations + lines + n as u64;
-        let step = records::read_record(file, at, 3, i, stations, lines, &mut place);
-        match step {
-            Step::Stopped { number, record } => return ReadAnswer::Refused { number, record },
-            Step::Next(next) => {
-                at = next;
-            }
+    let room = net.place_count() < PLACES;
+    room && comes_last(net.places(), place) && net.is_plain(place.line, place.side.number())
+}
+
+// Reads the head, which is the first record.
+fn read_head(records: &mut Records) -> Result<Head, Refusal>
+    requires { (records.old.number ≡ 1) × (records.old.number + length records.old.rest.now < 2 ^ 64) }
+    ensures answer { head_says result records.new.rest.now ≡ first_head (records_of records.old.rest.now) }
+    ensures few { IfOk result (λ head. (head.stations ≤ 512) × (head.lines ≤ 768)) }
+    ensures goes_on { OnOk result ((records.new.number ≡ 2) × (length records.new.rest.now < length records.old.rest.now)) }
+{
+    let row = records.next(Kind::Head, 0, 0)?;
+    Ok(head_of(&row))
+}
+
+// Reads the stations, as many as the head says.
+fn read_stations(records: &mut Records, net: &mut Network) -> Result<(), Refusal>
+    requires { (net.old.stations ≡ []) × (net.old.head.stations ≤ 512)
+        × (records.old.number + length records.old.rest.now < 2 ^ 64) }
+    ensures answer { left_says result net.new records.new.rest.now
+        ≡ more_stations net.old records.old.number net.old.head.stations (records_of records.old.rest.now) }
+    ensures others { (net.new.head ≡ net.old.head) × (net.new.lines ≡ net.old.lines) × (net.new.places ≡ net.old.places) }
+    ensures goes_on { OnOk result ((records.new.number ≡ records.old.number + net.old.head.stations)
+        × (records.new.number + length records.new.rest.now ≤ records.old.number + length records.old.rest.now)) }
+{
+    let head = *net.head();
+    for _ in 0..head.stations {
+        let row = records.next(Kind::Station, head.stations as u64, head.lines as u64)?;
+        net.add_station(station_of(&row));
+    }
+    Ok(())
+}
+
+// Reads the lines, as many as the head says. They have a loop of their own, since a helper with a closure would have to say of each closure
+// what it may be called on and what it adds.
+fn read_lines(records: &mut Records, net: &mut Network) -> Result<(), Refusal>
+    requires { (net.old.lines ≡ []) × (net.old.head.lines ≤ 768)
+        × (records.old.number + length records.old.rest.now < 2 ^ 64) }
+    ensures answer { left_says result net.new records.new.rest.now
+        ≡ more_lines net.old records.old.number net.old.head.lines (records_of records.old.rest.now) }
+    ensures others { (net.new.head ≡ net.old.head) × (net.new.stations ≡ net.old.stations) × (net.new.places ≡ net.old.places) }
+    ensures goes_on { OnOk result ((length net.new.lines ≡ net.old.head.lines)
+        × (records.new.number ≡ records.old.number + net.old.head.lines)
+        × (records.new.number + length records.new.rest.now ≤ records.old.number + length records.old.rest.now)) }
+{
+    let head = *net.head();
+    for _ in 0..head.lines {
+        let row = records.next(Kind::Line, head.stations as u64, head.lines as u64)?;
+        net.add_line(line_of(&row));
+    }
+    Ok(())
+}
+
+// Reads the places, which are all the records that are left.
+fn read_places(records: &mut Records, net: &mut Network) -> Result<(), Refusal>
+    requires { (length net.old.lines ≡ net.old.head.lines)
+        × (records.old.number + length records.old.rest.now < 2 ^ 64) }
+    ensures { says_of result net.new ≡ more_places net.old records.old.number (records_of records.old.rest.now) }
+{
+    let head = *net.head();
+    while !records.is_empty() {
+        let record = records.number();
+        let row = records.next(Kind::Place, head.stations as u64, head.lines as u64)?;
+        let place = place_of(&row);
+        if !well_placed(net, &place) {
+            return Err(Refusal::Misplaced { record });
         }
-        if !well_placed(net, n, &before, &place) {
-            return ReadAnswer::Refused {
-                number: 3,
-                record: i,
-            };
-        }
-        network_changes::add_place(
-            net,
-            place[0] as usize,
-            place[1] as usize,
-            place[2],
-            place[3],
-        );
-        before = place;
+        net.add_place(place);
     }
-    ReadAnswer::Read
-}
-
-// Reads the head of a file into its part of the buffer.
-fn read_head(file: &[u8], net: &mut [u64]) -> Step
-    requires { length net.old ≡ size }
-    ensures answer { step_says file.now result (take head_width net.new)
-        ≡ next_record 0 0 1 (kind_at 0) (records_of file.now) }
-    ensures position { within file.now result }
-{
-    records::read_record(file, 0, 0, 1, 0, 0, &mut net[0..buffer::HEAD_WIDTH])
-}
-
-// Reads the stations of a file into their part of the buffer.
-fn read_stations(file: &[u8], from: usize, stations: usize, lines: usize, net: &mut [u64]) -> Step
-    requires { (from ≤ length file.now) × (stations ≤ 512) × (length net.old ≡ size) }
-    ensures answer { step_says file.now result (records_in station_width stations (drop stations_at net.new))
-        ≡ read_records stations lines 2 (kind_at 1) stations (records_of (drop from file.now)) }
-    ensures position { within file.now result }
-    ensures before { take stations_at net.new ≡ take stations_at net.old }
-{
-    records::read_records(
-        file,
-        from,
-        1,
-        2,
-        stations,
-        stations as u64,
-        lines as u64,
-        &mut net[buffer::STATIONS_AT..buffer::LINES_AT],
-    )
-}
-
-// Reads the lines of a file into their part of the buffer.
-fn read_lines(file: &[u8], from: usize, stations: usize, lines: usize, net: &mut [u64]) -> Step
-    requires { (from ≤ length file.now) × (stations ≤ 512) × (lines ≤ 768) × (length net.old ≡ size) }
-    ensures answer { step_says file.now result (records_in line_width lines (drop lines_at net.new))
-        ≡ read_records stations lines (2 + stations) (kind_at 2) lines (records_of (drop from file.now)) }
-    ensures position { within file.now result }
-    ensures before { take lines_at net.new ≡ take lines_at net.old }
-{
-    records::read_records(
-        file,
-        from,
-        2,
-        2 + stations as u64,
-        lines,
-        stations as u64,
-        lines as u64,
-        &mut net[buffer::LINES_AT..buffer::PLACES_AT],
-    )
-}
-
-// Reads the stations, the lines and the places of a file whose head is in the buffer.
-fn read_after_head(file: &[u8], from: usize, net: &mut Net) -> ReadAnswer
-    requires { (from ≤ length file.now)
-        × (length (network_in net.old).stations ≤ 512) × (length (network_in net.old).lines ≤ 768) }
-    ensures { read_says result net.new
-        ≡ read_after_head (network_in net.old).head (records_of (drop from file.now)) }
-{
-    let stations = buffer::station_count(net);
-    let lines = buffer::line_count(net);
-    let mut at = from;
-    let step = read_stations(file, at, stations, lines, net);
-    match step {
-        Step::Stopped { number, record } => return ReadAnswer::Refused { number, record },
-        Step::Next(next) => {
-            at = next;
-        }
-    }
-    let step = read_lines(file, at, stations, lines, net);
-    match step {
-        Step::Stopped { number, record } => return ReadAnswer::Refused { number, record },
-        Step::Next(next) => {
-            at = next;
-        }
-    }
-    read_places(file, at, net)
-}
-
-// Reads the records of a file into the buffer.
-fn read_file(file: &[u8], net: &mut Net) -> ReadAnswer
-    ensures { read_says result net.new ≡ read_file (records_of file.now) }
-{
-    let step = read_head(file, net);
-    match step {
-        Step::Stopped { number, record } => ReadAnswer::Refused { number, record },
-        Step::Next(next) => read_after_head(file, next, net),
-    }
+    Ok(())
 }
 
 // Whether a file has too many bytes.
@@ -182,15 +194,16 @@ fn too_long(bytes: usize) -> bool
     32768 < bytes
 }
 
-// Reads a network file into the buffer, or says why it is refused: for its length, then record by record.
-pub fn read(file: &[u8], net: &mut Net) -> ReadAnswer
-    ensures { read_says result net.new ≡ network_of file.now }
+// Reads the network of a file, or says why it is refused: for its length, then record by record.
+pub fn read(file: &[u8], net: &mut Network) -> Result<(), Refusal>
+    ensures { says_of result net.new ≡ network_of file.now }
 {
     if too_long(file.len()) {
-        return ReadAnswer::Refused {
-            number: 1,
-            record: 0,
-        };
+        return Err(Refusal::TooLong);
     }
-    read_file(file, net)
+    let mut records = Records::of(file);
+    net.clear(read_head(&mut records)?);
+    read_stations(&mut records, net)?;
+    read_lines(&mut records, net)?;
+    read_places(&mut records, net)
 }

@@ -1,5 +1,1 @@
-pub mod Ranged
 pub mod Next
-pub mod Buffers
-pub mod Several
-pub mod Steps

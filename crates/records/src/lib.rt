@@ -1,130 +1,117 @@
-// Records of a file: their form, then the ranges of their numbers. Kinds of record are 0 to 3 for N, S, L and P.
+// The records of a file, one after the other: their form, then the ranges of their numbers.
 #![tactic(auto)]
 
-ghost use Rattle.std.specs.Prelude.{◌≡◌, ◌≤◌, ◌+◌, ◌<◌, ◌*◌, ◌^◌, length, drop, get_or, []};
-ghost use Rattle.model.specs.Format.{records_of};
-ghost use Rattle.model.specs.Network.{value, read_records};
-ghost use Rattle.model.specs.Ranges.{rows, all_in_range};
-ghost use Rattle.buffer.specs.Buffer.{records_in};
-ghost use Rattle.records.specs.Kinds.{letters, kind_at, next_record};
-ghost use Rattle.records.specs.Steps.{step_says, forward, within};
+ghost use Rattle.std.specs.Prelude.{◌≡◌, true, ◌+◌, ◌<◌, ◌^◌, ltb, eqb, length, IfOk, OnOk, OnSome, IfSome};
+ghost use Rattle.model.specs.Format.{records_of, fields_of, after_letter};
+ghost use Rattle.model.specs.Network.{value};
+ghost use Rattle.model.specs.Ranges.{all_in_range};
+ghost use Rattle.ranges.specs.Kinds.{kind_of};
+ghost use Rattle.records.specs.Records.{first_closed, next_record, closed_says, read_says, numbers};
 
-// What was read is right, and the file goes on at a position; or the file is refused.
-#[derive(Clone, Copy)]
-pub enum Step {
-    Next(usize),
-    Stopped { number: u64, record: u64 },
+use arrayvec::ArrayVec;
+use model::Refusal;
+use ranges::{Context, Kind};
+
+// What is left of a file, and the number of the record that comes next.
+#[derive(Clone, Copy, Debug)]
+pub struct Records<'a> {
+    rest: &'a [u8],
+    number: u64,
 }
 
-// The letter of each kind.
-const LETTERS: [u8; 4] = [b'N', b'S', b'L', b'P'];
+// Whether a record is closed, which ends where the first newline would stand.
+fn is_closed(rest: &[u8], end: usize) -> bool
+    ensures { result ≡ ltb end (length rest.now) }
+{
+    end < rest.len()
+}
 
-// How many numbers each kind has.
-const WIDTHS: [usize; 4] = [8, 2, 5, 4];
+// The numbers of a record, of which no kind has more than eight.
+pub type Row = ArrayVec<u64, 8>;
+
+// The numbers of a record of a kind: its letter, then as many fields as the kind has. None where the record has not this form.
+fn row_of(bytes: &[u8], kind: Kind) -> Option<Row>
+    ensures numbers { numbers result ≡ after_letter (kind_of kind).letter (length (kind_of kind).ranges) (fields_of bytes.now) }
+    ensures width { IfSome result (λ row. length row.items ≡ length (kind_of kind).ranges) }
+{
+    let mut row = Row::from([0; 8]);
+    row.truncate(kind.ranges().len());
+    fields::read_form(bytes, kind.letter(), row.as_mut_slice())?;
+    Some(row)
+}
 
 // Whether each number of a record of a kind is in its range.
-fn in_ranges(kind: usize, numbers: &[u64], stations: u64, lines: u64) -> bool
-    requires { (kind < 4) × (length numbers.now ≡ length (get_or rows kind [])) }
-    ensures { result ≡ all_in_range stations lines (value numbers.now 0) (get_or rows kind []) numbers.now }
+fn in_ranges(kind: Kind, numbers: &[u64], stations: u64, lines: u64) -> bool
+    ensures { result ≡ all_in_range stations lines (value numbers.now 0) (kind_of kind).ranges numbers.now }
 {
-    for field in 0..numbers.len() {
-        if !ranges::in_range(kind, field, numbers[field], stations, lines, numbers[0]) {
-            return false;
+    let first = numbers.first().copied().unwrap_or(0);
+    let context = Context {
+        stations,
+        lines,
+        first,
+    };
+    ranges::all_in_range(kind.ranges(), numbers, context)
+}
+
+impl<'a> Records<'a> {
+    // The records of a file, from record 1 on.
+    pub fn of(file: &'a [u8]) -> Records<'a>
+        ensures { (result.rest.now ≡ file.now) × (result.number ≡ 1) }
+    {
+        Records {
+            rest: file,
+            number: 1,
         }
     }
-    true
-}
 
-// The letter of a record of a kind.
-fn letter_of(kind: usize) -> u8
-    requires { kind < 4 }
-    ensures { result ≡ get_or letters kind 0 }
-{
-    LETTERS[kind]
-}
-
-// Reads the record at a position, record `i` of the file, into `numbers`.
-pub fn read_record(
-    file: &[u8],
-    at: usize,
-    kind: usize,
-    i: u64,
-    stations: u64,
-    lines: u64,
-    numbers: &mut [u64],
-) -> Step
-    requires { (at ≤ length file.now) × (kind < 4) × (length numbers.old ≡ length (get_or rows kind [])) }
-    ensures answer { step_says file.now result numbers.new
-        ≡ next_record stations lines i (kind_at kind) (records_of (drop at file.now)) }
-    ensures position { forward file.now at result }
-{
-    let end = fields::part_end(file, at, b'\n');
-    if end == file.len() {
-        return Step::Stopped {
-            number: 1,
-            record: i,
-        };
+    // Whether no record is left.
+    pub fn is_empty(&self) -> bool
+        ensures { result ≡ eqb (length self.now.rest.now) 0 }
+    {
+        self.rest.is_empty()
     }
-    if !fields::read_form(&file[at..end], letter_of(kind), numbers) {
-        return Step::Stopped {
-            number: 1,
-            record: i,
-        };
-    }
-    if !in_ranges(kind, numbers, stations, lines) {
-        return Step::Stopped {
-            number: 2,
-            record: i,
-        };
-    }
-    Step::Next(end + 1)
-}
 
-// How many numbers a record of a kind has.
-fn width_of(kind: usize) -> usize
-    requires { kind < 4 }
-    ensures { (result ≡ length (get_or rows kind [])) × (result ≤ 8) }
-{
-    WIDTHS[kind]
-}
+    // The number of the record that comes next.
+    pub fn number(&self) -> u64
+        ensures { result ≡ self.now.number }
+    {
+        self.number
+    }
 
-// Reads the next `count` records of a kind, the first of them record `first` of the file, one behind the other into `numbers`.
-pub fn read_records(
-    file: &[u8],
-    from: usize,
-    kind: usize,
-    first: u64,
-    count: usize,
-    stations: u64,
-    lines: u64,
-    numbers: &mut [u64],
-) -> Step
-    requires { (from ≤ length file.now) × (kind < 4) × (first + count < 2 ^ 64)
-        × (count * length (get_or rows kind []) ≤ length numbers.old) }
-    ensures answer { step_says file.now result (records_in (length (get_or rows kind [])) count numbers.new)
-        ≡ read_records stations lines first (kind_at kind) count (records_of (drop from file.now)) }
-    ensures position { within file.now result }
-{
-    let width = width_of(kind);
-    let mut at = from;
-    for k in 0..count {
-        let a = k * width;
-        let e = a + width;
-        let step = read_record(
-            file,
-            at,
-            kind,
-            first + k as u64,
-            stations,
-            lines,
-            &mut numbers[a..e],
-        );
-        match step {
-            Step::Stopped { number, record } => return Step::Stopped { number, record },
-            Step::Next(next) => {
-                at = next;
-            }
+    // The bytes of the next record, where it is closed, without the newline that closes it.
+    fn next_closed(&mut self) -> Option<&'a [u8]>
+        requires { self.old.number + length self.old.rest.now < 2 ^ 64 }
+        ensures bytes { closed_says result self.new.rest.now ≡ first_closed (records_of self.old.rest.now) }
+        ensures goes_on { OnSome result ((self.new.number ≡ self.old.number + 1)
+            × (length self.new.rest.now < length self.old.rest.now)) }
+    {
+        let end = fields::part_end(self.rest, 0, b'\n');
+        if !is_closed(self.rest, end) {
+            return None;
         }
+        let bytes = &self.rest[..end];
+        self.rest = &self.rest[end + 1..];
+        self.number += 1;
+        Some(bytes)
     }
-    Step::Next(at)
+
+    // The numbers of the next record, which must be of a kind: its form, then the ranges of its numbers.
+    pub fn next(&mut self, kind: Kind, stations: u64, lines: u64) -> Result<Row, Refusal>
+        requires { self.old.number + length self.old.rest.now < 2 ^ 64 }
+        ensures numbers { read_says result self.new.rest.now
+            ≡ next_record stations lines self.old.number (kind_of kind) (records_of self.old.rest.now) }
+        ensures width { IfOk result (λ row. length row.items ≡ length (kind_of kind).ranges) }
+        ensures ranges { IfOk result (λ row. all_in_range stations lines (value row.items 0) (kind_of kind).ranges row.items ≡ true) }
+        ensures goes_on { OnOk result ((self.new.number ≡ self.old.number + 1)
+            × (length self.new.rest.now < length self.old.rest.now)) }
+    {
+        let record = self.number;
+        let malformed = Refusal::Malformed { record };
+        let bytes = self.next_closed().ok_or(malformed)?;
+        let row = row_of(bytes, kind).ok_or(malformed)?;
+        if !in_ranges(kind, &row, stations, lines) {
+            return Err(Refusal::OutOfRange { record });
+        }
+        Ok(row)
+    }
 }

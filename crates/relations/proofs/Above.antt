@@ -17,7 +17,7 @@ use Rattle.savings.specs.First.{this}
 use Rattle.savings.specs.Breakers.{end_at}
 use Rattle.theory.specs.Behind.{far}
 use Rattle.theory.specs.Best.{Accepted, place-closed}
-use Rattle.buffer.specs.Fits.{end_in}
+use Rattle.network.specs.There.{end_in}
 use Rattle.tree.specs.Outwards.{near_end, feeder}
 use Rattle.sets.specs.Ways.{has, Way, has-onward}
 use Rattle.sets.specs.Onward.{onward, onward-first, way-onward}

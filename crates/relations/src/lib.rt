@@ -4,12 +4,13 @@
 ghost use Rattle.std.specs.Prelude.{◌≡◌, not, eqb, length, get_or, ℕ, ◌+◌, ◌*◌, ◌-◌, ◌≤◌};
 ghost use Rattle.savings.specs.Breakers.{end_at};
 ghost use Rattle.theory.specs.Best.{Accepted};
-ghost use Rattle.buffer.specs.Buffer.{network_in};
 ghost use Rattle.relations.specs.Related.{HoldsRelations};
 ghost use Rattle.marks.specs.Held.{HoldsPlaces};
 ghost use Rattle.paths.specs.Held.{HoldsFeeders, HoldsFirsts};
 ghost use Rattle.relations.specs.Lists.{HoldsLists, many, Listed, SameUpTo};
 ghost use Rattle.relations.specs.Climb.{is_above, place_above, Among, Noted, Kept};
+
+use network::Network;
 
 // Whether an end, 1 or 2, of a line is its far end.
 fn is_far(sides: &[u64; 768], line: usize, side: usize) -> bool
@@ -20,30 +21,30 @@ fn is_far(sides: &[u64; 768], line: usize, side: usize) -> bool
 }
 
 // The line of a place.
-fn line_of(net: &buffer::Net, place: usize) -> usize
-    requires { Accepted (network_in net.now) × Among (length (network_in net.now).places) place }
-    ensures is { result ≡ (end_at (network_in net.now) place).line }
-    ensures there { (1 ≤ result) × (result ≤ length (network_in net.now).lines) × (result ≤ 768) }
+fn line_of(net: &Network, place: usize) -> usize
+    requires { Accepted net.now × Among (length net.now.places) place }
+    ensures is { result ≡ (end_at net.now place).line }
+    ensures there { (1 ≤ result) × (result ≤ length net.now.lines) × (result ≤ 768) }
 {
-    grid::place_line(net, place)
+    net.place_line(place)
 }
 
 // The next place above a place, the first that the path onward from it meets; 0 if there is none.
 fn above_of(
-    net: &buffer::Net,
+    net: &Network,
     sides: &[u64; 768],
     feeders: &[u64; 768],
     marks: &[u64; 1537],
     firsts: &[u64; 768],
     place: usize,
 ) -> usize
-    requires { Accepted (network_in net.now) × HoldsFeeders (network_in net.now) sides.now feeders.now
-        × HoldsPlaces (network_in net.now) marks.now × HoldsFirsts (network_in net.now) firsts.now
-        × Among (length (network_in net.now).places) place }
-    ensures { result ≡ place_above (network_in net.now) place }
+    requires { Accepted net.now × HoldsFeeders net.now sides.now feeders.now
+        × HoldsPlaces net.now marks.now × HoldsFirsts net.now firsts.now
+        × Among (length net.now.places) place }
+    ensures { result ≡ place_above net.now place }
 {
     let line = line_of(net, place);
-    if is_far(sides, line, grid::place_side(net, place)) {
+    if is_far(sides, line, net.place_side(place)) {
         return firsts[line - 1] as usize;
     }
     let feeder = feeders[line - 1] as usize;
@@ -55,7 +56,7 @@ fn above_of(
 
 // The relations between a place and those above it: it is behind each of them, and each is on the path onward from it.
 fn climb(
-    net: &buffer::Net,
+    net: &Network,
     sides: &[u64; 768],
     feeders: &[u64; 768],
     marks: &[u64; 1537],
@@ -63,10 +64,10 @@ fn climb(
     relations: &mut [u64; 4225],
     place: usize,
 )
-    requires { Accepted (network_in net.now) × HoldsFeeders (network_in net.now) sides.now feeders.now
-        × HoldsPlaces (network_in net.now) marks.now × HoldsFirsts (network_in net.now) firsts.now
-        × Among (length (network_in net.now).places) place × (length relations.old ≡ 4225) }
-    ensures { Noted (length (network_in net.now).places) (λ q. is_above (network_in net.now) q place)
+    requires { Accepted net.now × HoldsFeeders net.now sides.now feeders.now
+        × HoldsPlaces net.now marks.now × HoldsFirsts net.now firsts.now
+        × Among (length net.now.places) place × (length relations.old ≡ 4225) }
+    ensures { Noted (length net.now.places) (λ q. is_above net.now q place)
         place relations.old relations.new × Kept relations.old relations.new
         × (length relations.new ≡ 4225) }
 {
@@ -87,20 +88,20 @@ fn no_relations(relations: &mut [u64; 4225])
 
 // How each place stands to each other.
 pub fn fill_relations(
-    net: &buffer::Net,
+    net: &Network,
     sides: &[u64; 768],
     feeders: &[u64; 768],
     marks: &[u64; 1537],
     firsts: &[u64; 768],
     relations: &mut [u64; 4225],
 )
-    requires { Accepted (network_in net.now) × HoldsFeeders (network_in net.now) sides.now feeders.now
-        × HoldsPlaces (network_in net.now) marks.now × HoldsFirsts (network_in net.now) firsts.now }
-    ensures { HoldsRelations (network_in net.now) relations.new
+    requires { Accepted net.now × HoldsFeeders net.now sides.now feeders.now
+        × HoldsPlaces net.now marks.now × HoldsFirsts net.now firsts.now }
+    ensures { HoldsRelations net.now relations.new
         × (length relations.new ≡ 4225) }
 {
     no_relations(relations);
-    for place in 1..buffer::place_count(net) + 1 {
+    for place in 1..net.place_count() + 1 {
         climb(net, sides, feeders, marks, firsts, relations, place);
     }
 }

@@ -9,14 +9,14 @@ ghost use Rattle.model.specs.Sets.{place_at, allowed, set_total};
 ghost use Rattle.model.specs.Walk.{search};
 ghost use Rattle.theory.specs.Reading.{Read};
 ghost use Rattle.theory.specs.Best.{Accepted};
-ghost use Rattle.buffer.specs.Buffer.{network_in};
-ghost use Rattle.buffer.specs.Fits.{PlaceThere};
+ghost use Rattle.network.specs.There.{PlaceThere};
 ghost use Rattle.outage.specs.Held.{HoldsCustomers};
 ghost use Rattle.marks.specs.Held.{HoldsEnds};
 ghost use Rattle.bounds.specs.Bounds.{HoldsBounds};
 ghost use Rattle.search.specs.Walking.{found_in, begun, visited, extended, Counted, Trying, Next, Barren, Promising, Seeking, Sought, Extending, Left, Starting};
 
 use amounts::Total;
+use network::Network;
 
 // How far a walk has come: how much the best set saves of the file's total, how many members it has, the visits, and whether the
 // walk is spent.
@@ -41,7 +41,7 @@ pub struct Current {
 
 // A visit of a set is due. At the limit the walk is spent. Else the visit is counted, and the set is best if it saves more.
 fn visit(
-    net: &buffer::Net,
+    net: &Network,
     set: &[u64; 16],
     size: usize,
     saved: Total,
@@ -49,15 +49,16 @@ fn visit(
     progress: Progress,
 ) -> Progress
     requires { (length set.now ≡ 16) × (length best.old ≡ 16) × (size ≤ 16)
-        × (saved.0 + set_total (network_in net.now) (take size set.now) ≡ total_of (network_in net.now))
-        × Counted (network_in net.now) progress }
-    ensures { (length best.new ≡ 16) × Counted (network_in net.now) result
-        × (found_in (network_in net.now) result best.new
-        ≡ visited (network_in net.now) (take size set.now)
-        (found_in (network_in net.now) progress best.old)) }
+        × (saved.0 + set_total net.now (take size set.now) ≡ total_of net.now)
+        × Counted net.now progress }
+    ensures { (length best.new ≡ 16) × Counted net.now result
+        × (found_in net.now result best.new
+        ≡ visited net.now (take size set.now)
+        (found_in net.now progress best.old)) }
 {
     let most = progress.saved;
-    if progress.visits == buffer::visits(net) {
+    let limit = net.head().visits;
+    if progress.visits == limit {
         return Progress {
             saved: most,
             count: progress.count,
@@ -85,34 +86,35 @@ fn visit(
 }
 
 // Whether a set with such a cost and such hours is within the file's money and hours.
-fn within_means(net: &buffer::Net, cost: u64, hours: u64) -> bool
-    ensures { result ≡ (leb cost (network_in net.now).head.money && leb hours
-        (network_in net.now).head.hours) }
+fn within_means(net: &Network, cost: u64, hours: u64) -> bool
+    ensures { result ≡ (leb cost net.now.head.money && leb hours
+        net.now.head.hours) }
 {
-    cost <= buffer::money(net) && hours <= buffer::hours(net)
+    let head = net.head();
+    cost <= head.money && hours <= head.hours
 }
 
 // The cost of the set with one more place.
-fn cost_with(net: &buffer::Net, current: Current, place: usize) -> u64
-    requires { PlaceThere net.now place × Read (network_in net.now) × (current.cost ≤ (network_in net.now).head.money)
-        × (current.hours ≤ (network_in net.now).head.hours) }
-    ensures { result ≡ current.cost + (place_at (network_in net.now) place).cost }
+fn cost_with(net: &Network, current: Current, place: usize) -> u64
+    requires { PlaceThere net.now place × Read net.now × (current.cost ≤ net.now.head.money)
+        × (current.hours ≤ net.now.head.hours) }
+    ensures { result ≡ current.cost + (place_at net.now place).cost }
 {
-    current.cost + grid::place_cost(net, place)
+    current.cost + net.place_cost(place)
 }
 
 // The hours of the set with one more place.
-fn hours_with(net: &buffer::Net, current: Current, place: usize) -> u64
-    requires { PlaceThere net.now place × Read (network_in net.now) × (current.cost ≤ (network_in net.now).head.money)
-        × (current.hours ≤ (network_in net.now).head.hours) }
-    ensures { result ≡ current.hours + (place_at (network_in net.now) place).hours }
+fn hours_with(net: &Network, current: Current, place: usize) -> u64
+    requires { PlaceThere net.now place × Read net.now × (current.cost ≤ net.now.head.money)
+        × (current.hours ≤ net.now.head.hours) }
+    ensures { result ≡ current.hours + (place_at net.now place).hours }
 {
-    current.hours + grid::place_hours(net, place)
+    current.hours + net.place_hours(place)
 }
 
 // Whether the set with one more place is allowed.
 fn may_get(
-    net: &buffer::Net,
+    net: &Network,
     relations: &[u64; 4225],
     outlook: &[u64; 195],
     set: &[u64; 16],
@@ -120,8 +122,8 @@ fn may_get(
     pending: usize,
     place: usize,
 ) -> bool
-    requires { Trying (network_in net.now) relations.now outlook.now set.now current pending place }
-    ensures { result ≡ allowed (network_in net.now) (take current.size set.now ++ (place ∷ [])) }
+    requires { Trying net.now relations.now outlook.now set.now current pending place }
+    ensures { result ≡ allowed net.now (take current.size set.now ++ (place ∷ [])) }
 {
     let in_series = prospects::in_series_of(
         net,
@@ -132,7 +134,8 @@ fn may_get(
         pending,
         place,
     );
-    if buffer::series(net) <= in_series {
+    let series = net.head().series;
+    if series <= in_series {
         return false;
     }
     let cost = cost_with(net, current, place);
@@ -142,7 +145,7 @@ fn may_get(
 
 // The set with one more place.
 fn with_place(
-    net: &buffer::Net,
+    net: &Network,
     relations: &[u64; 4225],
     ends: &[u64; 65],
     sums: &[u64; 768],
@@ -152,9 +155,9 @@ fn with_place(
     pending: usize,
     place: usize,
 ) -> Current
-    requires { Trying (network_in net.now) relations.now outlook.now set.now current pending place
-        × HoldsEnds (network_in net.now) ends.now × HoldsCustomers (network_in net.now) sums.now }
-    ensures { Next (network_in net.now) set.now current place result }
+    requires { Trying net.now relations.now outlook.now set.now current pending place
+        × HoldsEnds net.now ends.now × HoldsCustomers net.now sums.now }
+    ensures { Next net.now set.now current place result }
 {
     let size = current.size;
     let fall = prospects::fall(
@@ -172,23 +175,23 @@ fn with_place(
 // Whether a set that saves so much is to be extended by places from `from` on: it may get `left`, some are left, the walk is not
 // spent, and by the bound they may do better than the best.
 fn goes_on(
-    net: &buffer::Net,
+    net: &Network,
     bounds: &[u64; 1105],
     saved: Total,
     from: usize,
     left: usize,
     found: Progress,
 ) -> bool
-    requires { Accepted (network_in net.now) × HoldsBounds (network_in net.now) bounds.now
-        × Counted (network_in net.now) found × (saved.0 ≤ total_of (network_in net.now)) × (left ≤ 16) × (1 ≤ from) }
-    ensures { (result ≡ false → Barren (network_in net.now) found.spent found.saved.0 saved.0 from left)
-        × (result ≡ true → Promising (network_in net.now) found.spent found.saved.0 saved.0 from left) }
+    requires { Accepted net.now × HoldsBounds net.now bounds.now
+        × Counted net.now found × (saved.0 ≤ total_of net.now) × (left ≤ 16) × (1 ≤ from) }
+    ensures { (result ≡ false → Barren net.now found.spent found.saved.0 saved.0 from left)
+        × (result ≡ true → Promising net.now found.spent found.saved.0 saved.0 from left) }
 {
     let full = left == 0;
     if full {
         return false;
     }
-    if buffer::place_count(net) < from {
+    if net.place_count() < from {
         return false;
     }
     if found.spent {
@@ -200,16 +203,16 @@ fn goes_on(
 
 // Whether a set whose last member is `place` is to be extended, by `left` more places.
 fn goes_deeper(
-    net: &buffer::Net,
+    net: &Network,
     bounds: &[u64; 1105],
     saved: Total,
     place: usize,
     left: usize,
     found: Progress,
 ) -> bool
-    requires { Accepted (network_in net.now) × HoldsBounds (network_in net.now) bounds.now
-        × Counted (network_in net.now) found × (saved.0 ≤ total_of (network_in net.now)) × (left ≤ 16) × (place ≤ 64) }
-    ensures { result ≡ false → Barren (network_in net.now) found.spent found.saved.0 saved.0 (place + 1)
+    requires { Accepted net.now × HoldsBounds net.now bounds.now
+        × Counted net.now found × (saved.0 ≤ total_of net.now) × (left ≤ 16) × (place ≤ 64) }
+    ensures { result ≡ false → Barren net.now found.spent found.saved.0 saved.0 (place + 1)
         left }
 {
     goes_on(net, bounds, saved, place + 1, left, found)
@@ -217,7 +220,7 @@ fn goes_deeper(
 
 // The next place from `from` on that the set may get, unless the set is not to be extended from there on.
 fn next_place(
-    net: &buffer::Net,
+    net: &Network,
     relations: &[u64; 4225],
     bounds: &[u64; 1105],
     outlook: &[u64; 195],
@@ -228,9 +231,9 @@ fn next_place(
     left: usize,
     found: Progress,
 ) -> usize
-    requires { Seeking (network_in net.now) relations.now bounds.now outlook.now set.now current pending from left
+    requires { Seeking net.now relations.now bounds.now outlook.now set.now current pending from left
         found }
-    ensures { Sought (network_in net.now) (take current.size set.now) current.saved.0 from
+    ensures { Sought net.now (take current.size set.now) current.saved.0 from
         left found result }
 {
     let mut place = from;
@@ -245,7 +248,7 @@ fn next_place(
 
 // The next place after `place` that the set may get, unless the set is not to be extended from there on.
 fn next_after(
-    net: &buffer::Net,
+    net: &Network,
     relations: &[u64; 4225],
     bounds: &[u64; 1105],
     outlook: &[u64; 195],
@@ -256,9 +259,9 @@ fn next_after(
     left: usize,
     found: Progress,
 ) -> usize
-    requires { Seeking (network_in net.now) relations.now bounds.now outlook.now set.now current pending (place + 1)
+    requires { Seeking net.now relations.now bounds.now outlook.now set.now current pending (place + 1)
         left found }
-    ensures { Sought (network_in net.now) (take current.size set.now) current.saved.0
+    ensures { Sought net.now (take current.size set.now) current.saved.0
         (place + 1) left found result }
 {
     let from = place + 1;
@@ -269,7 +272,7 @@ fn next_after(
 
 // Extends the current set, which may get `left` more places, by each of the places from `from` on in rising order.
 fn extend(
-    net: &buffer::Net,
+    net: &Network,
     relations: &[u64; 4225],
     ends: &[u64; 65],
     lists: &[u64; 4225],
@@ -284,10 +287,10 @@ fn extend(
     left: usize,
     progress: Progress,
 ) -> Progress
-    requires { Extending (network_in net.now) relations.now ends.now lists.now sums.now bounds.now outlook.old
-        rows.old set.old current from left × (length best.old ≡ 16) × Counted (network_in net.now) progress }
-    ensures { Left (network_in net.now) (extended (network_in net.now) left
-        (take current.size set.old) from (found_in (network_in net.now) progress best.old))
+    requires { Extending net.now relations.now ends.now lists.now sums.now bounds.now outlook.old
+        rows.old set.old current from left × (length best.old ≡ 16) × Counted net.now progress }
+    ensures { Left net.now (extended net.now left
+        (take current.size set.old) from (found_in net.now progress best.old))
         current.size result outlook.old outlook.new rows.old rows.new set.old
         set.new best.new }
 {
@@ -349,7 +352,7 @@ fn begin() -> Progress
 
 // The search: the empty set, which saves nothing, is visited first, then it is extended by at most `adds` of the places.
 pub fn walk(
-    net: &buffer::Net,
+    net: &Network,
     relations: &[u64; 4225],
     ends: &[u64; 65],
     lists: &[u64; 4225],
@@ -360,9 +363,9 @@ pub fn walk(
     set: &mut [u64; 16],
     best: &mut [u64; 16],
 ) -> Progress
-    requires { Starting (network_in net.now) relations.now ends.now lists.now sums.now bounds.now outlook.old
+    requires { Starting net.now relations.now ends.now lists.now sums.now bounds.now outlook.old
         rows.old set.old best.old }
-    ensures { (found_in (network_in net.now) result best.new ≡ search (network_in net.now))
+    ensures { (found_in net.now result best.new ≡ search net.now)
         × (length best.new ≡ 16) × (result.count ≤ 16) }
 {
     let first = visit(net, set, 0, Total::ZERO, best, begin());
@@ -385,7 +388,7 @@ pub fn walk(
             hours: 0,
         },
         1,
-        buffer::adds(net),
+        net.head().adds,
         first,
     )
 }

@@ -12,7 +12,7 @@ use Rattle.model.specs.Segments.{weight_tripped, segment_amount, segment}
 use Rattle.theory.specs.Sizes.{read-sized}
 use Rattle.theory.specs.Segments.{segment_amount-size}
 use Rattle.theory.specs.Ends.{breaker-closed}
-use Rattle.buffer.specs.Fits.{end_in}
+use Rattle.network.specs.There.{end_in}
 use Rattle.outage.proofs.Paths.{behind-line}
 use Rattle.segments.specs.Entries.{Summed, entry_of}
 

@@ -6,14 +6,14 @@ ghost use Rattle.std.specs.Prelude.{◌≡◌, ◌∷◌, ◌+◌, ◌*◌, ◌-
 ghost use Rattle.model.specs.Paths.{is_breaker};
 ghost use Rattle.model.specs.Segments.{breaker_ends, segment_table};
 ghost use Rattle.theory.specs.Best.{Accepted};
-ghost use Rattle.buffer.specs.Buffer.{network_in};
-ghost use Rattle.buffer.specs.Fits.{EndThere, LineThere, end_in};
+ghost use Rattle.network.specs.There.{EndThere, LineThere, end_in};
 ghost use Rattle.paths.specs.Held.{HoldsTrips};
 ghost use Rattle.outage.specs.Held.{HoldsCustomers};
 ghost use Rattle.text.specs.Over.{over, Written};
 ghost use Rattle.segments.specs.Entries.{HoldsWeights, Summed, entry_of, entries_of};
 
 use amounts::{Customers, Weight};
+use network::Network;
 
 // The code of the breaker that trips for line i + 1.
 fn trip_code(trips: &[u64; 768], i: usize) -> usize
@@ -24,14 +24,14 @@ fn trip_code(trips: &[u64; 768], i: usize) -> usize
 }
 
 // The weights of the lines that each breaker trips for, by the end's code.
-fn weights_tripped(net: &buffer::Net, trips: &[u64; 768], weights: &mut [u64; 1537])
-    requires { Accepted (network_in net.now) × HoldsTrips (network_in net.now) trips.now }
-    ensures { HoldsWeights (network_in net.now) weights.new }
+fn weights_tripped(net: &Network, trips: &[u64; 768], weights: &mut [u64; 1537])
+    requires { Accepted net.now × HoldsTrips net.now trips.now }
+    ensures { HoldsWeights net.now weights.new }
 {
     marks::clear(weights);
-    for i in 0..buffer::line_count(net) {
+    for i in 0..net.line_count() {
         let code = trip_code(trips, i);
-        weights[code] = weights[code] + grid::weight(net, i + 1);
+        weights[code] = weights[code] + net.weight(i + 1);
     }
 }
 
@@ -52,11 +52,11 @@ fn line_customers(sums: &[u64; 768], line: usize) -> Customers
 }
 
 // Whether an end has an entry: every breaker has one, whatever it trips for.
-fn has_entry(net: &buffer::Net, line: usize, side: usize) -> bool
+fn has_entry(net: &Network, line: usize, side: usize) -> bool
     requires { EndThere net.now line side }
-    ensures { result ≡ is_breaker (network_in net.now) (end_in line side) }
+    ensures { result ≡ is_breaker net.now (end_in line side) }
 {
-    grid::is_breaker(net, line, side)
+    net.is_breaker(line, side)
 }
 
 // An entry at the start of a table.
@@ -74,16 +74,16 @@ fn put_entry(table: &mut [u64], line: u64, side: u64, weight: Weight, customers:
 
 // The entry of an end, if it has one, at the start of a table; answers how many numbers it has.
 fn put_end(
-    net: &buffer::Net,
+    net: &Network,
     sums: &[u64; 768],
     weights: &[u64; 1537],
     line: usize,
     side: usize,
     table: &mut [u64],
 ) -> usize
-    requires ready { Summed (network_in net.now) sums.now weights.now × EndThere net.now line side }
+    requires ready { Summed net.now sums.now weights.now × EndThere net.now line side }
     requires room { 5 ≤ length table.old }
-    ensures written { Written (entry_of (network_in net.now) (end_in line side))
+    ensures written { Written (entry_of net.now (end_in line side))
         table.old table.new result }
     ensures short { result ≤ 5 }
 {
@@ -98,15 +98,15 @@ fn put_end(
 
 // The entries of a line's ends; answers how many numbers they have.
 fn put_ends(
-    net: &buffer::Net,
+    net: &Network,
     sums: &[u64; 768],
     weights: &[u64; 1537],
     line: usize,
     table: &mut [u64],
 ) -> usize
-    requires ready { Summed (network_in net.now) sums.now weights.now × LineThere net.now line }
+    requires ready { Summed net.now sums.now weights.now × LineThere net.now line }
     requires room { 10 ≤ length table.old }
-    ensures written { Written (entries_of (network_in net.now) line) table.old table.new result }
+    ensures written { Written (entries_of net.now line) table.old table.new result }
     ensures short { result ≤ 10 }
 {
     let at = put_end(net, sums, weights, line, 1, table);
@@ -114,19 +114,14 @@ fn put_ends(
 }
 
 // The entries of all lines, one behind another; answers how many there are.
-fn put_lines(
-    net: &buffer::Net,
-    sums: &[u64; 768],
-    weights: &[u64; 1537],
-    table: &mut [u64],
-) -> usize
-    requires ready { Summed (network_in net.now) sums.now weights.now }
+fn put_lines(net: &Network, sums: &[u64; 768], weights: &[u64; 1537], table: &mut [u64]) -> usize
+    requires ready { Summed net.now sums.now weights.now }
     requires room { 7680 ≤ length table.old }
-    ensures count { result ≡ length (breaker_ends (network_in net.now)) }
-    ensures written { table.new ≡ over (segment_table (network_in net.now)) table.old }
+    ensures count { result ≡ length (breaker_ends net.now) }
+    ensures written { table.new ≡ over (segment_table net.now) table.old }
 {
     let mut at: usize = 0;
-    for line in 1..buffer::line_count(net) + 1 {
+    for line in 1..net.line_count() + 1 {
         at = at + put_ends(net, sums, weights, line, &mut table[at..]);
     }
     at / 5
@@ -134,17 +129,12 @@ fn put_lines(
 
 // Writes the segment table of an accepted network at the start of a buffer, from the code of the breaker that trips for each line
 // and the customers behind each line; answers how many entries it has.
-pub fn write_table(
-    net: &buffer::Net,
-    trips: &[u64; 768],
-    sums: &[u64; 768],
-    table: &mut [u64],
-) -> usize
-    requires ready { Accepted (network_in net.now)
-        × HoldsTrips (network_in net.now) trips.now × HoldsCustomers (network_in net.now) sums.now }
+pub fn write_table(net: &Network, trips: &[u64; 768], sums: &[u64; 768], table: &mut [u64]) -> usize
+    requires ready { Accepted net.now
+        × HoldsTrips net.now trips.now × HoldsCustomers net.now sums.now }
     requires room { 7680 ≤ length table.old }
-    ensures count { result ≡ length (breaker_ends (network_in net.now)) }
-    ensures written { table.new ≡ over (segment_table (network_in net.now)) table.old }
+    ensures count { result ≡ length (breaker_ends net.now) }
+    ensures written { table.new ≡ over (segment_table net.now) table.old }
 {
     let mut weights = [0u64; 1537];
     weights_tripped(net, trips, &mut weights);

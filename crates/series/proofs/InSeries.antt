@@ -20,8 +20,7 @@ use Rattle.theory.specs.Ends.{breaker-closed, closed-end}
 use Rattle.theory.specs.Radial.{Rules, In, listed-vertex, station-in}
 use Rattle.theory.specs.Above.{breakers-count, series-above}
 use Rattle.theory.specs.Behind.{far, vertices, listed_in}
-use Rattle.buffer.specs.Buffer.{network_in}
-use Rattle.buffer.specs.Fits.{LineThere, end_in}
+use Rattle.network.specs.There.{LineThere, end_in}
 use Rattle.tree.specs.Outwards.{near_end}
 use Rattle.tree.proofs.Near.{hv-or-fed}
 use Rattle.sets.specs.InSeries.{most, most-of, most-less}
@@ -88,10 +87,10 @@ module _ (N : Network) (d : Read N) (r : Rules N) where
       ))
 
 -- ── by the buffers ──
-module _ (b sides : List ℕ) (d : Read (network_in b)) (r : Rules (network_in b)) (h : HoldsSides (network_in b) sides) (l : ℕ) (t : LineThere b l)
-    (counts : List ℕ) (k : HoldsCounts (network_in b) counts) where
+module _ (b : Network) (sides : List ℕ) (d : Read b) (r : Rules b) (h : HoldsSides b sides) (l : ℕ) (t : LineThere b l)
+    (counts : List ℕ) (k : HoldsCounts b counts) where
   abbrev N : Network
-  N = network_in b
+  N = b
 
   -- the number of the far end
   abbrev side : ℕ

@@ -8,8 +8,7 @@ use lib.ListN.{length, get_or}
 use Rattle.model.specs.Network.{Network}
 use Rattle.model.specs.Paths.{is_open}
 use Rattle.theory.specs.Best.{Accepted}
-use Rattle.buffer.specs.Buffer.{network_in}
-use Rattle.buffer.specs.Fits.{LineThere, end_in}
+use Rattle.network.specs.There.{LineThere, end_in}
 use Rattle.sets.specs.Stops.{first_place}
 use Rattle.sets.specs.Apart.{place_ends}
 use Rattle.marks.specs.Held.{place_on, HoldsPlaces}
@@ -19,9 +18,9 @@ use Rattle.paths.proofs.FarEnds.{far-is, first-beyond}
 use Rattle.starts.specs.Own.{far_end, far_place}
 use Rattle.starts.proofs.OnEnds.{on-most}
 
-module _ (b sides : List ℕ) (a : Accepted (network_in b)) (h : HoldsSides (network_in b) sides) (l : ℕ) (t : LineThere b l) where
+module _ (b : Network) (sides : List ℕ) (a : Accepted b) (h : HoldsSides b sides) (l : ℕ) (t : LineThere b l) where
   abbrev N : Network
-  N = network_in b
+  N = b
 
   -- the number of the far end
   abbrev side : ℕ

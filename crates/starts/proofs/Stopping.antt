@@ -19,8 +19,7 @@ use Rattle.savings.specs.Breakers.{end_at}
 use Rattle.savings.specs.Totals.{breakers_with}
 use Rattle.theory.specs.Ends.{in-numbers}
 use Rattle.theory.specs.Best.{Accepted}
-use Rattle.buffer.specs.Buffer.{network_in}
-use Rattle.buffer.specs.Fits.{LineThere, PlaceThere}
+use Rattle.network.specs.There.{LineThere, PlaceThere}
 use Rattle.tree.specs.Linked.{end_code}
 use Rattle.sets.specs.Ways.{has, covers, covers-is, first_on}
 use Rattle.sets.specs.Onward.{onward}
@@ -79,9 +78,9 @@ module _ (N : Network) (a : Accepted N) (l : ℕ) (i : 1 ≤ l) (j : l ≤ lengt
     stop-breaker q = sym (stops false (covered ∙ ne_eqb _ _ q) ∙ none-there)
 
 -- ── by the buffers ──
-module _ (b trips firsts : List ℕ) (a : Accepted (network_in b)) (t : HoldsTrips (network_in b) trips) (f : HoldsFirsts (network_in b) firsts) (l : ℕ) (u : LineThere b l) where
+module _ (b : Network) (trips firsts : List ℕ) (a : Accepted b) (t : HoldsTrips b trips) (f : HoldsFirsts b firsts) (l : ℕ) (u : LineThere b l) where
   abbrev M : Network
-  M = network_in b
+  M = b
 
   -- the first place on the line's path
   abbrev p : ℕ
@@ -101,7 +100,7 @@ module _ (b trips firsts : List ℕ) (a : Accepted (network_in b)) (t : HoldsTri
     placed = ⊎_elim (λ n. absurd (z (first-is ∙ n.0))) (λ g. g) (place-or-none M (first_place (place_ends M) (route M l)))
 
     pub place-there : PlaceThere b p
-    place-there = record { fits = u.fits; low = omega (arith, first-is, placed.low); high = omega (arith, first-is, placed.high) }
+    place-there = record { low = omega (arith, first-is, placed.low); high = omega (arith, first-is, placed.high) }
 
     module _ (k : ℕ) (e : k ≡ (place_at M p).line) where
       pub line-there : (1 ≤ k) × (k ≤ length M.lines)

@@ -2,14 +2,15 @@
 use Rattle.std.specs.Prelude.{ℕ, zero, suc, ◌+◌, ◌≤◌, ◌<◌, ◌≡◌, refl, Bool, true, false, ◌&&◌, List, [], ◌∷◌, map, leb, ltb, eqb, length, get_or}
 use Rattle.std.proofs.Common.{sym, ap, ◌∙◌, subst, arith, leb-true, ltb-true, eqb-true}
 use Rattle.std.proofs.Math.Bool.{and-eq-true_iff}
-use Rattle.std.proofs.Math.Option.{Option, none, some}
+use Rattle.std.specs.Prelude.{Option, None, Some}
 use Rattle.std.proofs.lemmas.List.{length-map}
 use Rattle.model.specs.Lists.{numbered}
 use Rattle.model.specs.Answer.{Answer, given, refused, ◌>>=◌}
 use Rattle.model.specs.Format.{Record, closed, unclosed, records_of, form_of, after_letter, fields_of, numbers_of, number_of, with_number}
 use Rattle.model.specs.declared.Range.{Range}
 use Rattle.model.specs.Ranges.{◌to◌, row_n, row_s, row_l, row_p, largest_of, in_range, all_in_range}
-use Rattle.model.specs.Network.{Head, Station, Line, Place, Network, value, Kind, kind_n, kind_s, kind_l, kind_p, check_values, read_record, read_records, head_of, station_of, line_of, place_of, no_line, no_place, state_at, comes_after, well_placed, read_places, read_after_head, read_file, network_of}
+use Rattle.model.specs.declared.Head.{Head}
+use Rattle.model.specs.Network.{Station, Line, Place, Network, value, Kind, kind_n, kind_s, kind_l, kind_p, check_values, read_record, read_records, head_of, station_of, line_of, place_of, no_line, no_place, state_at, comes_after, well_placed, read_places, read_after_head, read_file, network_of}
 
 -- every element of a list has a property
 abbrev pub All : {A : Type 0} → (A → Type 0) → List A → Type 0
@@ -33,31 +34,31 @@ in-turn (given a) f b h k = k a refl h
 in-turn (refused n r) f b h k = absurd (not-given n r b h)
 
 -- ── the numbers of a record ──
-not_some : {A : Type 0} (a : A) → none ≡ some a → ⊥
+not_some : {A : Type 0} (a : A) → None ≡ Some a → ⊥
 not_some a e = let z : ◌≡◌ {A = ℕ} 0 1 = cc in omega arith
 
-numbers-length : (fs : List (List ℕ)) (vs : List ℕ) → numbers_of fs ≡ some vs → length vs ≡ length fs
+numbers-length : (fs : List (List ℕ)) (vs : List ℕ) → numbers_of fs ≡ Some vs → length vs ≡ length fs
 unfolding numbers_of
 numbers-length [] vs h = let e : [] ≡ vs = cc in ap length (sym e)
 numbers-length (f ∷ fs) vs h = go (number_of f) (numbers_of fs) refl (λ us. numbers-length fs us) h
   where
-    go : (a : Option ℕ) (b : Option (List ℕ)) → numbers_of fs ≡ b → ((us : List ℕ) → numbers_of fs ≡ some us → length us ≡ length fs) → with_number a b ≡ some vs → length vs ≡ suc (length fs)
-    go none b q ih h = absurd (not_some vs h)
-    go (some n) none q ih h = absurd (not_some vs h)
-    go (some n) (some us) q ih h = let e : n ∷ us ≡ vs = cc in ap length (sym e) ∙ ap suc (ih us q)
+    go : (a : Option ℕ) (b : Option (List ℕ)) → numbers_of fs ≡ b → ((us : List ℕ) → numbers_of fs ≡ Some us → length us ≡ length fs) → with_number a b ≡ Some vs → length vs ≡ suc (length fs)
+    go None b q ih h = absurd (not_some vs h)
+    go (Some n) None q ih h = absurd (not_some vs h)
+    go (Some n) (Some us) q ih h = let e : n ∷ us ≡ vs = cc in ap length (sym e) ∙ ap suc (ih us q)
 
-after-length : (letter count : ℕ) (fs : List (List ℕ)) (vs : List ℕ) → after_letter letter count fs ≡ some vs → length vs ≡ count
+after-length : (letter count : ℕ) (fs : List (List ℕ)) (vs : List ℕ) → after_letter letter count fs ≡ Some vs → length vs ≡ count
 unfolding after_letter
 after-length letter count [] vs h = absurd (not_some vs h)
 after-length letter count ([] ∷ fs) vs h = absurd (not_some vs h)
 after-length letter count ((k ∷ []) ∷ fs) vs h = go (eqb k letter && eqb (length fs) count) refl h
   where
-    go : (b : Bool) → (eqb k letter && eqb (length fs) count) ≡ b → ◌≡◌ {A = Option (List ℕ)} (elim b as (λ x. Option (List ℕ)) [ true ↦ numbers_of fs | false ↦ none ]) (some vs) → length vs ≡ count
+    go : (b : Bool) → (eqb k letter && eqb (length fs) count) ≡ b → ◌≡◌ {A = Option (List ℕ)} (elim b as (λ x. Option (List ℕ)) [ true ↦ numbers_of fs | false ↦ None ]) (Some vs) → length vs ≡ count
     go true q h = numbers-length fs vs h ∙ eqb-true (length fs) count ((and-eq-true_iff (eqb k letter) (eqb (length fs) count)).0 q).1
     go false q h = absurd (not_some vs h)
 after-length letter count ((k ∷ l ∷ ks) ∷ fs) vs h = absurd (not_some vs h)
 
-form-length : (letter count : ℕ) (r : Record) (vs : List ℕ) → form_of letter count r ≡ some vs → length vs ≡ count
+form-length : (letter count : ℕ) (r : Record) (vs : List ℕ) → form_of letter count r ≡ Some vs → length vs ≡ count
 unfolding form_of
 form-length letter count (closed r) vs h = after-length letter count (fields_of r) vs h
 form-length letter count (unclosed r) vs h = absurd (not_some vs h)
@@ -72,8 +73,8 @@ unfolding read_record check_values
 record-fits stations lines i k r vs h = go (form_of k.letter (length k.ranges) r) refl h
   where
     go : (o : Option (List ℕ)) → form_of k.letter (length k.ranges) r ≡ o → check_values stations lines i k o ≡ given vs → Fits stations lines k.ranges vs
-    go none q h = absurd (not-given 1 i vs h)
-    go (some us) q h = ok (all_in_range stations lines (value us 0) k.ranges us) refl h
+    go None q h = absurd (not-given 1 i vs h)
+    go (Some us) q h = ok (all_in_range stations lines (value us 0) k.ranges us) refl h
       where
         ok : (b : Bool) → all_in_range stations lines (value us 0) k.ranges us ≡ b → ◌≡◌ {A = Answer (List ℕ)} (elim b as (λ x. Answer (List ℕ)) [ true ↦ given us | false ↦ refused 2 i ]) (given vs) → Fits stations lines k.ranges vs
         ok true y h = subst (Fits stations lines k.ranges) (given_eq us vs h) (record { many = form-length k.letter (length k.ranges) r us q; ranged = y })

@@ -2,14 +2,15 @@
 use Rattle.std.specs.Prelude.{ℕ, zero, suc, ◌+◌, ◌≤◌, ◌<◌, ◌≡◌, Bool, true, false, not, ◌&&◌, List, [], ◌∷◌, map, ltb, eqb, length}
 use Rattle.std.proofs.Math.Path.{refl}
 use Rattle.std.proofs.Math.Bool.{and-eq-true_iff}
-use Rattle.std.proofs.Math.Option.{Option, none, some}
+use Rattle.std.specs.Prelude.{Option, None, Some}
 use Rattle.std.proofs.Common.{arith, leb-true, ltb-true}
 use Rattle.std.proofs.Math.Dec.{leb}
 use Rattle.model.specs.Lists.{numbers, numbered}
 use Rattle.model.specs.Answer.{Answer, given, refused, ◌>>=◌}
 use Rattle.model.specs.Format.{Record, records_of, form_of}
 use Rattle.model.specs.Ranges.{all_in_range}
-use Rattle.model.specs.Network.{Head, Line, Place, Network, value, Kind, kind_n, kind_s, kind_l, kind_p, check_values, read_record, read_records, head_of, line_of, place_of, no_line, no_place, state_at, comes_after, well_placed, read_places, read_after_head, read_file, network_of}
+use Rattle.model.specs.declared.Head.{Head}
+use Rattle.model.specs.Network.{Line, Place, Network, value, Kind, kind_n, kind_s, kind_l, kind_p, check_values, read_record, read_records, head_of, line_of, place_of, no_line, no_place, state_at, comes_after, well_placed, read_places, read_after_head, read_file, network_of}
 use Rattle.model.specs.Paths.{station_numbers, line_numbers}
 use Rattle.model.specs.Outage.{impact}
 use Rattle.model.specs.Ceiling.{set_count}
@@ -52,8 +53,8 @@ unfolding read_record check_values
 record-bounded stations lines i k r h = go (form_of k.letter (length k.ranges) r)
   where
     go : (o : Option (List ℕ)) → Bounded (check_values stations lines i k o)
-    go none = told 1 i refl h
-    go (some vs) =
+    go None = told 1 i refl h
+    go (Some vs) =
         either (all_in_range stations lines (value vs 0) k.ranges vs) (given vs) (refused 2 i)
         (λ t. tt) (λ f. told 2 i refl h)
 

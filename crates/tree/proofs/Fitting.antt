@@ -2,7 +2,7 @@
 use native.Mathlib.Omega.{arith}
 use Rattle.model.specs.Network.{Network}
 use Rattle.theory.specs.Reading.{Read}
-use Rattle.buffer.specs.Fits.{Fits}
+use Rattle.network.specs.There.{Fits}
 
 pub read_fits : (N : Network) → Read N → Fits N
 read_fits N d = record {

@@ -6,27 +6,28 @@ ghost use Rattle.std.specs.Prelude.{ℕ, ◌+◌, ◌≤◌, ◌<◌, ◌≡◌,
 ghost use Rattle.model.specs.Paths.{End, is_open, station_at};
 ghost use Rattle.theory.specs.Reading.{Read};
 ghost use Rattle.theory.specs.Radial.{Rules};
-ghost use Rattle.buffer.specs.Buffer.{network_in};
 ghost use Rattle.tree.specs.Linked.{code_end, Chain, Linked};
 ghost use Rattle.tree.specs.Outwards.{Outwards};
 ghost use Rattle.tree.specs.Codes.{CodeThere};
 ghost use Rattle.tree.specs.Queue.{leaving, Room, Added, Queue, Reached};
 
+use network::Network;
+
 // Whether the end with a code is closed.
-fn is_closed(net: &buffer::Net, code: usize) -> bool
-    requires { CodeThere (network_in net.now) code }
-    ensures { result ≡ not (is_open (network_in net.now) (code_end code)) }
+fn is_closed(net: &Network, code: usize) -> bool
+    requires { CodeThere net.now code }
+    ensures { result ≡ not (is_open net.now (code_end code)) }
 {
-    !grid::is_open(net, (code + 1) / 2, 2 - code % 2)
+    !net.is_open((code + 1) / 2, 2 - code % 2)
 }
 
 // The station that the end with a code is at.
-fn station_of(net: &buffer::Net, code: usize) -> usize
-    requires { CodeThere (network_in net.now) code }
-    ensures { (result ≡ station_at (network_in net.now) (code_end code)) × (1 ≤ result)
-        × (result ≤ length (network_in net.now).stations) }
+fn station_of(net: &Network, code: usize) -> usize
+    requires { CodeThere net.now code }
+    ensures { (result ≡ station_at net.now (code_end code)) × (1 ≤ result)
+        × (result ≤ length net.now.stations) }
 {
-    grid::end_station(net, (code + 1) / 2, 2 - code % 2)
+    net.end_station((code + 1) / 2, 2 - code % 2)
 }
 
 // Every station's list is empty.
@@ -39,12 +40,12 @@ fn clear(chains: &mut [u64; 512], nexts: &mut [u64; 1536])
 }
 
 // The list of the closed ends at each station, by rising codes.
-pub fn link_ends(net: &buffer::Net, chains: &mut [u64; 512], nexts: &mut [u64; 1536])
-    requires { Read (network_in net.now) }
-    ensures { Linked (network_in net.now) chains.new nexts.new }
+pub fn link_ends(net: &Network, chains: &mut [u64; 512], nexts: &mut [u64; 1536])
+    requires { Read net.now }
+    ensures { Linked net.now chains.new nexts.new }
 {
     clear(chains, nexts);
-    let mut code = 2 * buffer::line_count(net);
+    let mut code = 2 * net.line_count();
     while code != 0 {
         if is_closed(net, code) {
             let station = station_of(net, code);
@@ -100,22 +101,22 @@ fn append(
 
 // The lines that leave the HV stations. Returns how many there are.
 fn from_hv(
-    net: &buffer::Net,
+    net: &Network,
     chains: &[u64; 512],
     nexts: &[u64; 1536],
     sides: &mut [u64; 768],
     feeders: &mut [u64; 768],
     order: &mut [u64; 768],
 ) -> usize
-    requires { Read (network_in net.now) × Rules (network_in net.now)
-        × Linked (network_in net.now) chains.now nexts.now }
-    ensures { Queue (network_in net.now) (Reached (network_in net.now) []) sides.new
+    requires { Read net.now × Rules net.now
+        × Linked net.now chains.now nexts.now }
+    ensures { Queue net.now (Reached net.now []) sides.new
         feeders.new order.new result }
 {
     blank(sides, feeders, order);
     let mut n = 0;
-    for s in 0..buffer::station_count(net) {
-        if grid::is_hv(net, s + 1) {
+    for s in 0..net.station_count() {
+        if net.is_hv(s + 1) {
             n = append(nexts, sides, feeders, order, chains[s] as usize, 0, 0, n);
         }
     }
@@ -125,7 +126,7 @@ fn from_hv(
 // The lines that leave the far station of the line at place i of the order, if its far end is closed, follow the n lines there.
 // Returns how many lines the order has then.
 fn from_line(
-    net: &buffer::Net,
+    net: &Network,
     chains: &[u64; 512],
     nexts: &[u64; 1536],
     sides: &mut [u64; 768],
@@ -134,11 +135,11 @@ fn from_line(
     i: usize,
     n: usize,
 ) -> usize
-    requires read { Read (network_in net.now) × Rules (network_in net.now)
-        × Linked (network_in net.now) chains.now nexts.now }
-    requires queue { Queue (network_in net.now) (Reached (network_in net.now) (take i order.old)) sides.old feeders.old
+    requires read { Read net.now × Rules net.now
+        × Linked net.now chains.now nexts.now }
+    requires queue { Queue net.now (Reached net.now (take i order.old)) sides.old feeders.old
         order.old n × (i < n) }
-    ensures { Queue (network_in net.now) (Reached (network_in net.now)
+    ensures { Queue net.now (Reached net.now
         (take (i + 1) order.new)) sides.new feeders.new order.new result × (i < result) }
 {
     let line = order[i] as usize;
@@ -161,16 +162,16 @@ fn from_line(
 
 // The near end and the feeding line of each line, and an order of all lines from the HV stations outwards.
 pub fn outwards(
-    net: &buffer::Net,
+    net: &Network,
     chains: &[u64; 512],
     nexts: &[u64; 1536],
     sides: &mut [u64; 768],
     feeders: &mut [u64; 768],
     order: &mut [u64; 768],
 )
-    requires { Read (network_in net.now) × Rules (network_in net.now)
-        × Linked (network_in net.now) chains.now nexts.now }
-    ensures { Outwards (network_in net.now) sides.new feeders.new order.new }
+    requires { Read net.now × Rules net.now
+        × Linked net.now chains.now nexts.now }
+    ensures { Outwards net.now sides.new feeders.new order.new }
 {
     let mut n = from_hv(net, chains, nexts, sides, feeders, order);
     let mut i = 0;

@@ -1,78 +1,86 @@
-// Words into a buffer: each function puts its text from position `at` on and answers where the next text goes. What does not fit is
-// left out.
+// Bytes of a file in words, and a lent buffer that words are written into.
 #![tactic(auto)]
 
-ghost use Rattle.std.specs.Prelude.{◌≤◌, length};
-
-// A text as it is.
-pub fn put(out: &mut [u8], at: usize, text: &[u8]) -> usize {
-    let mut to = at;
-    let mut i: usize = 0;
-    while i < text.len() {
-        if to >= out.len() {
-            return to;
-        }
-        out[to] = text[i];
-        to += 1;
-        i += 1;
-    }
-    to
-}
-
-// A number.
-pub fn put_number(out: &mut [u8], at: usize, n: u64) -> usize {
-    let mut digits = [0u8; 20];
-    let count = text::put_number(&mut digits, n);
-    put(out, at, &digits[..count])
-}
-
-// A hexadecimal digit, 0 to 15.
-fn hex_digit(n: u8) -> u8
-    requires { n ≤ 15 }
-{
-    if n < 10 { 48 + n } else { 87 + n }
-}
+use std::fmt;
 
 // A byte of a file as a reader sees it: a printable character as it is, any other as `\x` and two hexadecimal digits.
-fn put_byte(out: &mut [u8], at: usize, byte: u8) -> usize {
-    if b' ' <= byte && byte <= b'~' {
-        return put(out, at, &[byte]);
+#[derive(Clone, Copy)]
+struct Byte(u8);
+
+impl fmt::Display for Byte {
+    fn fmt<W: fmt::Write>(&self, f: &mut fmt::Formatter<W>) -> fmt::Result {
+        match self.0 {
+            b' '..=b'~' => f.write_char(self.0 as char),
+            byte => write!(f, "\\x{byte:02x}"),
+        }
     }
-    put(
-        out,
-        at,
-        &[b'\\', b'x', hex_digit(byte / 16), hex_digit(byte % 16)],
-    )
 }
 
 // Bytes between quotes, those that are no printable characters spelled out.
-pub fn put_name(out: &mut [u8], at: usize, bytes: &[u8]) -> usize {
-    let mut to = put(out, at, b"\"");
-    let mut i: usize = 0;
-    while i < bytes.len() {
-        to = put_byte(out, to, bytes[i]);
-        i += 1;
+#[derive(Clone, Copy, Debug, PartialEq, Eq)]
+pub struct Name<'a>(pub &'a [u8]);
+
+impl fmt::Display for Name<'_> {
+    fn fmt<W: fmt::Write>(&self, f: &mut fmt::Formatter<W>) -> fmt::Result {
+        f.write_char('"')?;
+        for &byte in self.0 {
+            write!(f, "{}", Byte(byte))?;
+        }
+        f.write_char('"')
     }
-    put(out, to, b"\"")
 }
 
 // Bytes of a file between quotes, the first 24 of them.
-pub fn put_quoted(out: &mut [u8], at: usize, bytes: &[u8]) -> usize {
-    let mut to = put(out, at, b"\"");
-    let mut i: usize = 0;
-    while i < bytes.len() {
-        if i == 24 {
-            return put(out, to, b"..\"");
+#[derive(Clone, Copy, Debug, PartialEq, Eq)]
+pub struct Quoted<'a>(pub &'a [u8]);
+
+impl fmt::Display for Quoted<'_> {
+    fn fmt<W: fmt::Write>(&self, f: &mut fmt::Formatter<W>) -> fmt::Result {
+        f.write_char('"')?;
+        for &byte in self.0.iter().take(24) {
+            write!(f, "{}", Byte(byte))?;
         }
-        to = put_byte(out, to, bytes[i]);
-        i += 1;
+        if self.0.len() > 24 {
+            f.write_str("..")?;
+        }
+        f.write_char('"')
     }
-    put(out, to, b"\"")
 }
 
-// How many bytes at the start of a buffer hold the text that ends before `at`.
-pub fn used(out: &[u8], at: usize) -> usize
-    ensures { result ≤ length out.now }
-{
-    if at < out.len() { at } else { out.len() }
+// A lent buffer that texts are written into, one behind the other. What does not fit is left out.
+#[derive(Drop)]
+pub struct Lent<'a> {
+    buffer: &'a mut [u8],
+    // how many bytes at the start of the buffer are taken; more than it has if there is no place in it
+    taken: usize,
+}
+
+impl<'a> Lent<'a> {
+    // A buffer whose texts begin at a position.
+    pub fn starting_at(buffer: &'a mut [u8], at: usize) -> Self {
+        Lent { buffer, taken: at }
+    }
+
+    // A buffer whose texts begin at its start.
+    pub fn new(buffer: &'a mut [u8]) -> Self {
+        Self::starting_at(buffer, 0)
+    }
+
+    // The bytes of the buffer up to the end of its texts.
+    pub fn as_bytes(&self) -> &[u8] {
+        let n = self.taken.min(self.buffer.len());
+        &self.buffer[..n]
+    }
+}
+
+impl fmt::Write for Lent<'_> {
+    fn write_str(&mut self, text: &str) -> fmt::Result {
+        for &byte in text.as_bytes() {
+            if self.taken < self.buffer.len() {
+                self.buffer[self.taken] = byte;
+                self.taken += 1;
+            }
+        }
+        Ok(())
+    }
 }

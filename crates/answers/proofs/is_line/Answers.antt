@@ -7,7 +7,7 @@ pub returns-then-numbered : goal.returns-then-numbered
 returns-then-numbered c =
     let line = c.args.line in
     let n = c.line_count in
-    ((λ e. (omega (arith, c.if-numbered.true), omega (arith, n.ensures, leb-true line n.result e))), λ e. inr (omega (arith, n.ensures, leb-false line n.result e)))
+    ((λ e. (omega (arith, c.if-numbered.true), omega (arith, n.ensures.count, leb-true line n.result e))), λ e. inr (omega (arith, n.ensures.count, leb-false line n.result e)))
 
 pub returns-else-numbered : goal.returns-else-numbered
 returns-else-numbered c =

@@ -1,7 +1,6 @@
 use mathlib.Core.Path.{◌≡◌, refl, sym, ap, ◌∙◌}
 use mathlib.Core.List.{List}
 use Prim.Native.Nat.{ℕ}
-use lib.ListN.{take}
 use Rattle.model.specs.Calls.{printed}
 use Rattle.model.specs.Commands.{prints, commanded}
 use Rattle.model.specs.declared.Command.{Command}
@@ -14,5 +13,5 @@ report-prints file = refl
 
 pub returns-in-Report : goal.returns-in-Report
 returns-in-Report c =
-    let file : List ℕ = take c.args.bytes c.args.file.now in
+    let file : List ℕ = c.args.file.now in
     (c.put_answer.ensures.0 ∙ report-prints file ∙ ap (λ (k : Command). prints k file) (sym c.in-Report.is), c.put_answer.ensures.1)

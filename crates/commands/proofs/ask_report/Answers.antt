@@ -1,5 +1,5 @@
+use Rattle.std.proofs.Common.{arith}
 use Rattle.commands.proofs.Answering.{report-left}
-use native.Mathlib.Omega.{arith}
 use Rattle.commands.proofs.ask_report.Goals as goal
 
 pub returns : goal.returns

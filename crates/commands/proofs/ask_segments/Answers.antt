@@ -1,20 +1,21 @@
-use native.Mathlib.Omega.{arith}
+use Rattle.std.proofs.lemmas.Result.{err_from_is_err_and}
+use Rattle.std.proofs.Common.{rules, arith}
 use Rattle.commands.proofs.Answering.{segments-refused, segments-fit, segments-left}
-use Rattle.plans.proofs.Planning.{written-left}
-use borrow.Author.Rules.{rules}
 use Rattle.commands.proofs.ask_segments.Goals as goal
+
+pub returns-in_err-entries : goal.returns-in_err-entries
+returns-in_err-entries c =
+    let p = err_from_is_err_and c.from_residual.result c.from_residual.ensures.1 in
+    rw (p.1, p.2) (segments-refused c.args.file.now c.table_space-table.result (omega (arith, c.table_space-table.ensures)) c.in_err-entries.field-0.0 c.args.out.now c.in_err-entries.ensures.result_value)
 
 pub put_table-requires : goal.put_table-requires
 put_table-requires c =
-    let f = segments-fit c.args.file.now _ (omega arith) c.segments.result _ _ c.segments.ensures.result_value c.segments.ensures.table_after c.in-Entries.is in
-    (f, omega (arith, f, c.segments.auto.table), search rules)
+    let k = c.in_ok-entries in
+    let f = segments-fit c.args.file.now c.table_space-table.result (omega (arith, c.table_space-table.ensures)) k.entries c.segments.new.table k.ensures.result_value k.ensures.table_after in
+    (f, omega (arith, f, c.segments.auto.table, c.table_space-table.ensures), search rules)
 
-pub returns-in-Refused : goal.returns-in-Refused
-returns-in-Refused c =
-    segments-refused c.args.file.now _ (omega arith) c.segments.result _ c.segments.ensures.result_value c.in-Refused.is
-
-pub returns-in-Entries : goal.returns-in-Entries
-returns-in-Entries c =
-    let t = c.put_table in
-    let l = written-left _ _ _ _ t.ensures in
-    segments-left _ _ (omega arith) c.segments.result _ _ c.segments.ensures.result_value c.segments.ensures.table_after (search rules) _ _ l
+pub returns : goal.returns
+returns c =
+    let k = c.in_ok-entries in
+    segments-left c.args.file.now c.table_space-table.result (omega (arith, c.table_space-table.ensures)) k.entries c.segments.new.table k.ensures.result_value k.ensures.table_after
+    c.args.out.now c.put_table.new.out c.put_table.result c.put_table.ensures

@@ -2,14 +2,13 @@ use mathlib.Core.Path.{sym, ap, ◌∙◌}
 use borrow.Author.Rules.{rules}
 use Rattle.model.specs.Paths.{is_hv}
 use Rattle.model.specs.Rules.{plain_at_hv}
-use Rattle.buffer.specs.Buffer.{network_in}
 use Rattle.end_rules.proofs.is_plain_at_hv.Goals as goal
 
 pub returns-then-is_plain : goal.returns-then-is_plain
 unfolding plain_at_hv
 returns-then-is_plain c =
     rw (sym c.is_plain.ensures ∙ c.if-is_plain.true)
-    (c.is_hv.ensures ∙ ap (is_hv (network_in c.args.net.now)) c.station_of.ensures.value)
+    (c.is_hv.ensures ∙ ap (is_hv c.args.net.now) c.station_of.ensures.value)
 
 pub returns-else-is_plain : goal.returns-else-is_plain
 unfolding plain_at_hv

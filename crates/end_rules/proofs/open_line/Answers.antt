@@ -1,17 +1,15 @@
-use Prim.Native.Nat.{◌-◌}
-use borrow.Author.Rules.{rules}
+use Rattle.std.proofs.Common.{◌≡◌, true, false, arith, length, rules}
+use Rattle.std.proofs.lemmas.Iterator.{first_from_Range}
+use Rattle.model.specs.Paths.{line_numbers}
 use Rattle.model.specs.Rules.{both_open}
-use Rattle.end_rules.proofs.Looking.{looking-start, looking-next, looking-here, looking-end}
+use Rattle.end_rules.specs.First.{first-found}
 use Rattle.end_rules.proofs.open_line.Goals as goal
 
-pub loop-line-init : goal.loop-line-init
-loop-line-init c = looking-start _ _ _ (search rules)
-
-pub returns-then-both_open : goal.returns-then-both_open
-returns-then-both_open c = looking-here c.loop-line.invariant c.both_open.ensures (search rules) c.if-both_open.true
-
-pub loop-line-preserved : goal.loop-line-preserved
-loop-line-preserved c = looking-next c.loop-line.invariant c.both_open.ensures (search rules) c.if-both_open.false
-
 pub returns : goal.returns
-returns c = looking-end c.loop-line.invariant (search rules)
+unfolding line_numbers
+returns c =
+    let N = c.args.net.now in
+    first-found (both_open N) (length N.lines) _ c.find.result (omega (arith, c.line_count.ensures.count))
+    (first_from_Range _ _ _ _ (λ l. both_open N l ≡ true) (λ l. both_open N l ≡ false) c.find.ensures.ran
+    (λ x q k. search rules)
+    (λ x q k. (search rules, search rules)))

@@ -1,16 +1,15 @@
-use Prim.Native.Nat.{◌-◌}
-use borrow.Author.Rules.{rules}
-use Rattle.end_rules.proofs.Looking.{looking-start, looking-next, looking-here, looking-end}
+use Rattle.std.proofs.Common.{◌≡◌, true, false, arith, length, rules}
+use Rattle.std.proofs.lemmas.Iterator.{first_from_Range}
+use Rattle.model.specs.Paths.{line_numbers}
+use Rattle.model.specs.Rules.{unprotected}
+use Rattle.end_rules.specs.First.{first-found}
 use Rattle.end_rules.proofs.plain_at_hv.Goals as goal
 
-pub loop-line-init : goal.loop-line-init
-loop-line-init c = looking-start _ _ _ (search rules)
-
-pub returns-then-is_unprotected : goal.returns-then-is_unprotected
-returns-then-is_unprotected c = looking-here c.loop-line.invariant c.is_unprotected.ensures (search rules) c.if-is_unprotected.true
-
-pub loop-line-preserved : goal.loop-line-preserved
-loop-line-preserved c = looking-next c.loop-line.invariant c.is_unprotected.ensures (search rules) c.if-is_unprotected.false
-
 pub returns : goal.returns
-returns c = looking-end c.loop-line.invariant (search rules)
+unfolding line_numbers
+returns c =
+    let N = c.args.net.now in
+    first-found (unprotected N) (length N.lines) _ c.find.result (omega (arith, c.line_count.ensures.count))
+    (first_from_Range _ _ _ _ (λ l. unprotected N l ≡ true) (λ l. unprotected N l ≡ false) c.find.ensures.ran
+    (λ x q k. search rules)
+    (λ x q k. (search rules, search rules)))

@@ -1,10 +1,9 @@
 use native.Mathlib.Omega.{arith}
-use Rattle.buffer.specs.Buffer.{network_in}
-use Rattle.buffer.specs.Fits.{end_in}
+use Rattle.network.specs.There.{end_in}
 use Rattle.theory.specs.Radial.{station-in}
 use Rattle.end_rules.proofs.station_of.Goals as goal
 
 pub returns : goal.returns
 returns c =
-    let i = station-in (network_in c.args.net.now) c.requires.read (end_in c.args.line c.args.side) (omega arith) (omega arith) in
-    record { value = c.end_station.ensures; station_there = record { fits = c.requires.end_there.line.fits; low = omega (arith, i.0, c.end_station.ensures); high = omega (arith, i.1, c.end_station.ensures) } }
+    let i = station-in c.args.net.now c.requires.read (end_in c.args.line c.args.side) (omega arith) (omega arith) in
+    record { value = c.end_station.ensures; station_there = record { low = omega (arith, i.0, c.end_station.ensures); high = omega (arith, i.1, c.end_station.ensures) } }

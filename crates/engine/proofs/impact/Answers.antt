@@ -1,36 +1,16 @@
-use native.Mathlib.Omega.{arith}
-use Rattle.loading.proofs.Loads.{accepted-holds}
+use Rattle.std.proofs.lemmas.Result.{err_from_is_err_and}
 use Rattle.engine.proofs.Answers.{impact-refused, impact-given, impact-none}
 use Rattle.engine.proofs.impact.Goals as goal
 
-pub overflow_sub-result : goal.overflow_sub-result
-overflow_sub-result c = omega (arith, (c.is_line.ensures.0 c.if-is_line.true).0)
+pub returns-in_err-load : goal.returns-in_err-load
+returns-in_err-load c =
+    let p = err_from_is_err_and c.from_residual.result c.from_residual.ensures.1 in
+    rw (p.1, p.2) (impact-refused c.args.file.now c.args.line c.in_err-load.ensures.answer)
 
-pub offset_bounds-impacts-line : goal.offset_bounds-impacts-line
-offset_bounds-impacts-line c =
-    let a = c.args in
-    let read = (accepted-holds a.file.now c.load_impacts.new.net c.load_impacts.result c.load_impacts.ensures.net_after c.in-Accepted.is).read in
-    omega (arith, read.line_count, read.head.lines.high, (c.is_line.ensures.0 c.if-is_line.true).1)
+pub returns-then-not-is_line : goal.returns-then-not-is_line
+returns-then-not-is_line c = impact-none c.args.file.now c.args.line c.in_ok-load.ensures.answer (c.is_line.ensures.1 c.if-not-is_line.true)
 
-pub bounds-impacts-line : goal.bounds-impacts-line
-bounds-impacts-line c =
-    let a = c.args in
-    let read = (accepted-holds a.file.now c.load_impacts.new.net c.load_impacts.result c.load_impacts.ensures.net_after c.in-Accepted.is).read in
-    omega (arith, read.line_count, read.head.lines.high, (c.is_line.ensures.0 c.if-is_line.true).1)
-
-pub returns-in-Refused : goal.returns-in-Refused
-returns-in-Refused c =
-    let a = c.args in
-    impact-refused a.file.now c.load_impacts.new.net c.load_impacts.result c.load_impacts.ensures.net_after a.line c.in-Refused.is
-
-pub returns-then-is_line : goal.returns-then-is_line
-returns-then-is_line c =
-    let e = c.in-Accepted.is in
-    let a = c.args in
-    let inside = c.is_line.ensures.0 c.if-is_line.true in
-    impact-given a.file.now c.load_impacts.new.net c.load_impacts.result c.load_impacts.ensures.net_after e a.line _ inside.0 inside.1 (c.load_impacts.ensures.holds_impacts e a.line inside.0 inside.1)
-
-pub returns-else-is_line : goal.returns-else-is_line
-returns-else-is_line c =
-    let a = c.args in
-    impact-none a.file.now c.load_impacts.new.net c.load_impacts.result c.load_impacts.ensures.net_after c.in-Accepted.is a.line (c.is_line.ensures.1 c.if-is_line.false)
+pub returns : goal.returns
+returns c =
+    let inside = c.is_line.ensures.0 c.if-not-is_line.false in
+    impact-given c.args.file.now c.args.line _ c.in_ok-load.ensures.answer inside.0 inside.1 (c.impacts-impacts.ensures c.args.line inside.0 inside.1)

@@ -1,25 +1,24 @@
-use Rattle.loading.proofs.Loads.{accepted-holds}
+use Rattle.std.proofs.lemmas.Result.{err_from_is_err_and}
 use Rattle.engine.proofs.Reporting.{short-refused, file-refused, file-reported}
 use Rattle.engine.proofs.report.Goals as goal
 
-pub returns-then-short_text : goal.returns-then-short_text
-returns-then-short_text c = let all = short-refused c.args.file.now c.args.text.now (c.short_text.ensures.0 c.if-short_text.true) in
-    record { result_value = all.0; text_after = all.1 }
+pub returns-in_err-long_enough : goal.returns-in_err-long_enough
+returns-in_err-long_enough c =
+    let p = err_from_is_err_and c.from_residual.result c.from_residual.ensures.1 in
+    let s = c.in_err-long_enough.ensures.short in
+    let all = short-refused c.args.file.now c.args.text.now s.0 in
+    rw (p.1, p.2, s.1) (record { result_value = all.result_value; text_after = all.text_after })
 
-pub report_network-length-requires : goal.report_network-length-requires
-report_network-length-requires c =
-    let e = c.in-Accepted.is in
-    (accepted-holds c.args.file.now c.load.new.net c.load.result c.load.ensures.net_after e, c.load.ensures.prepared e, c.short_text.ensures.1 c.if-short_text.false)
+pub returns-in_err-load : goal.returns-in_err-load
+returns-in_err-load c =
+    let p = err_from_is_err_and c.from_residual-in_err-load.result c.from_residual-in_err-load.ensures.1 in
+    let e = c.in_err-load in
+    let all = file-refused c.args.file.now c.args.text.now c.in_ok-long_enough.ensures.enough e.field-0.0 e.ensures.answer in
+    rw (p.1, p.2) (record { result_value = all.result_value; text_after = all.text_after })
 
-pub returns-in-Refused : goal.returns-in-Refused
-returns-in-Refused c =
-    let a = c.args in
-    let all = file-refused a.file.now a.text.now (c.short_text.ensures.1 c.if-short_text.false) c.load.new.net c.load.result c.load.ensures.net_after c.in-Refused.is in
-    record { result_value = all.0; text_after = all.1 }
-
-pub returns-in-Accepted : goal.returns-in-Accepted
-returns-in-Accepted c =
-    let n = c.report_network-length in
-    let a = c.args in
-    let all = file-reported a.file.now a.text.now (c.short_text.ensures.1 c.if-short_text.false) c.load.new.net c.load.result c.load.ensures.net_after n.result _ c.in-Accepted.is n.ensures.0 n.ensures.1 in
-    record { result_value = all.0; text_after = all.1 }
+pub returns : goal.returns
+returns c =
+    let l = c.in_ok-load in
+    let w = c.report_network in
+    let all = file-reported c.args.file.now c.args.text.now c.in_ok-long_enough.ensures.enough c.load.new.self.network l.ensures.answer w.result w.new.text w.ensures.0 w.ensures.1 in
+    record { result_value = all.result_value; text_after = all.text_after }

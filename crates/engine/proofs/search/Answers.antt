@@ -1,25 +1,24 @@
-use mathlib.Core.Path.{◌≡◌, subst}
-use mathlib.Core.List.{◌++◌}
-use native.Mathlib.Omega.{arith}
-use lib.ListN.{take, drop}
-use Rattle.engine.proofs.Calling.{short-refused, file-answered}
+use Rattle.std.proofs.lemmas.Result.{err_from_is_err_and}
+use Rattle.engine.proofs.Calling.{short-refused, file-refused, file-answered}
 use Rattle.engine.proofs.search.Goals as goal
 
-pub returns-then-short_members : goal.returns-then-short_members
-returns-then-short_members c = let all = short-refused c.args.file.now c.args.members.now (c.short_members.ensures.0 c.if-short_members.true) in
-    record { result_value = all.0; members_after = all.1.0; demand3 = all.1.1 }
+pub returns-in_err-long_enough : goal.returns-in_err-long_enough
+returns-in_err-long_enough c =
+    let p = err_from_is_err_and c.from_residual.result c.from_residual.ensures.1 in
+    let s = c.in_err-long_enough.ensures.short in
+    let all = short-refused c.args.file.now c.args.members.now s.0 in
+    rw (p.1, p.2, s.1) (record { result_value = all.result_value; members_after = all.members_after; demand3 = all.demand3 })
 
-pub put_numbers-requires : goal.put_numbers-requires
-put_numbers-requires c =
-    let m = c.members_of.ensures in
-    (omega (arith, m, c.load_search-answer.ensures), omega (arith, m, c.load_search-answer.ensures, c.short_members.ensures.1 c.if-short_members.false))
+pub returns-in_err-load : goal.returns-in_err-load
+returns-in_err-load c =
+    let p = err_from_is_err_and c.from_residual-in_err-load.result c.from_residual-in_err-load.ensures.1 in
+    let e = c.in_err-load in
+    let all = file-refused c.args.file.now c.args.members.now c.in_ok-long_enough.ensures.enough e.field-0.0 e.ensures.answer in
+    rw (p.1, p.2) (record { result_value = all.result_value; members_after = all.members_after; demand3 = all.demand3 })
 
 pub returns : goal.returns
 returns c =
-    let a = c.args in
-    let best = c.load_search-answer.new.best in
-    let p = c.put_numbers in
-    let after = p.new.lent in
-    let all = file-answered a.file.now a.members.now (c.short_members.ensures.1 c.if-short_members.false) c.load_search-answer.result best after c.load_search-answer.ensures.1 c.load_search-answer.ensures.2
-    (subst (λ n. after ≡ take n best ++ drop n a.members.now) c.members_of.ensures p.ensures) c.load_search-answer.ensures.0 in
-    record { result_value = all.0; members_after = all.1.0; demand3 = all.1.1 }
+    let l = c.in_ok-load in
+    let w = c.search_network-plan in
+    let all = file-answered c.args.file.now c.args.members.now c.in_ok-long_enough.ensures.enough c.load.new.self.network l.ensures.answer w.result w.ensures.found w.ensures.few w.ensures.long c.put_members.new.lent c.put_members.ensures in
+    rw c.outcome_of.ensures (record { result_value = all.result_value; members_after = all.members_after; demand3 = all.demand3 })

@@ -1,27 +1,24 @@
-use Rattle.loading.proofs.Loads.{accepted-holds}
+use Rattle.std.proofs.lemmas.Result.{err_from_is_err_and}
 use Rattle.engine.proofs.Tabling.{short-refused, file-refused, file-tabled}
 use Rattle.engine.proofs.segments.Goals as goal
 
-pub returns-then-short_table : goal.returns-then-short_table
-returns-then-short_table c =
-    let a = c.args in
-    let all = short-refused a.file.now a.table.now (c.short_table.ensures.0 c.if-short_table.true) in
-    record { result_value = all.0; table_after = all.1.0; breaker_by_breaker = all.1.1 }
+pub returns-in_err-long_enough : goal.returns-in_err-long_enough
+returns-in_err-long_enough c =
+    let p = err_from_is_err_and c.from_residual.result c.from_residual.ensures.1 in
+    let s = c.in_err-long_enough.ensures.short in
+    let all = short-refused c.args.file.now c.args.table.now s.0 in
+    rw (p.1, p.2, s.1) (record { result_value = all.result_value; table_after = all.table_after; breaker_by_breaker = all.breaker_by_breaker })
 
-pub table_network-entries-requires : goal.table_network-entries-requires
-table_network-entries-requires c =
-    let e = c.in-Accepted.is in
-    (accepted-holds c.args.file.now c.load.new.net c.load.result c.load.ensures.net_after e, (c.load.ensures.prepared e).linked, (c.load.ensures.prepared e).tripping, c.short_table.ensures.1 c.if-short_table.false)
+pub returns-in_err-load : goal.returns-in_err-load
+returns-in_err-load c =
+    let p = err_from_is_err_and c.from_residual-in_err-load.result c.from_residual-in_err-load.ensures.1 in
+    let e = c.in_err-load in
+    let all = file-refused c.args.file.now c.args.table.now c.in_ok-long_enough.ensures.enough e.field-0.0 e.ensures.answer in
+    rw (p.1, p.2) (record { result_value = all.result_value; table_after = all.table_after; breaker_by_breaker = all.breaker_by_breaker })
 
-pub returns-in-Refused : goal.returns-in-Refused
-returns-in-Refused c =
-    let a = c.args in
-    let all = file-refused a.file.now a.table.now (c.short_table.ensures.1 c.if-short_table.false) c.load.new.net c.load.result c.load.ensures.net_after c.in-Refused.is in
-    record { result_value = all.0; table_after = all.1.0; breaker_by_breaker = all.1.1 }
-
-pub returns-in-Accepted : goal.returns-in-Accepted
-returns-in-Accepted c =
-    let n = c.table_network-entries in
-    let a = c.args in
-    let all = file-tabled a.file.now a.table.now (c.short_table.ensures.1 c.if-short_table.false) c.load.new.net c.load.result c.load.ensures.net_after n.result _ c.in-Accepted.is n.ensures.0 n.ensures.1 in
-    record { result_value = all.0; table_after = all.1.0; breaker_by_breaker = all.1.1 }
+pub returns : goal.returns
+returns c =
+    let l = c.in_ok-load in
+    let w = c.table_network in
+    let all = file-tabled c.args.file.now c.args.table.now c.in_ok-long_enough.ensures.enough c.load.new.self.network l.ensures.answer w.result w.new.table w.ensures.0 w.ensures.1 in
+    record { result_value = all.result_value; table_after = all.table_after; breaker_by_breaker = all.breaker_by_breaker }

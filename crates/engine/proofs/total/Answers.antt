@@ -1,24 +1,16 @@
-use mathlib.Core.Path.{◌∙◌}
-use Rattle.loading.proofs.Loads.{accepted-holds}
+use Rattle.std.proofs.lemmas.Result.{err_from_is_err_and}
+use Rattle.std.proofs.Common.{◌∙◌}
 use Rattle.engine.proofs.Answers.{total-refused, total-given}
 use Rattle.engine.proofs.total.Goals as goal
 
-pub total_of-requires : goal.total_of-requires
-total_of-requires c =
-    let e = c.in-Accepted.is in
-    ((accepted-holds c.args.file.now c.load_impacts.new.net c.load_impacts.result c.load_impacts.ensures.net_after e).read, c.load_impacts.ensures.holds_impacts e)
+pub returns-in_err-load : goal.returns-in_err-load
+returns-in_err-load c =
+    let p = err_from_is_err_and c.from_residual.result c.from_residual.ensures.1 in
+    rw (p.1, p.2) (total-refused c.args.file.now c.in_err-load.ensures.answer)
 
 pub figure_of-figure-requires : goal.figure_of-figure-requires
-figure_of-figure-requires c =
-    let e = c.in-Accepted.is in
-    ((accepted-holds c.args.file.now c.load_impacts.new.net c.load_impacts.result c.load_impacts.ensures.net_after e).read, c.number-total.ensures ∙ c.total_of.ensures)
+figure_of-figure-requires c = (c.in_ok-load.ensures.loaded.accepted.read, c.number-total.ensures ∙ c.total_of.ensures)
 
-pub returns-in-Refused : goal.returns-in-Refused
-returns-in-Refused c =
-    total-refused c.args.file.now c.load_impacts.new.net c.load_impacts.result c.load_impacts.ensures.net_after c.in-Refused.is
-
-pub returns-in-Accepted : goal.returns-in-Accepted
-returns-in-Accepted c =
-    let e = c.in-Accepted.is in
-    total-given c.args.file.now c.load_impacts.new.net c.load_impacts.result c.load_impacts.ensures.net_after e
-    c.number-total.result c.figure_of-figure.result (c.number-total.ensures ∙ c.total_of.ensures) c.figure_of-figure.ensures
+pub returns : goal.returns
+returns c =
+    total-given c.args.file.now c.number-total.result c.figure_of-figure.result c.in_ok-load.ensures.answer (c.number-total.ensures ∙ c.total_of.ensures) c.figure_of-figure.ensures

@@ -1,61 +1,87 @@
-use mathlib.Core.Path.{refl, sym, ap, ◌∙◌}
-use native.Mathlib.Omega.{arith}
-use lib.ListN.{length, length-set}
-use Rattle.fields.specs.Fields.{number_says, form_says}
-use Rattle.fields.proofs.Fields.{on_from, letter-right, letter-wrong, kind-wrong, no_field, bad-field, next_field, all_read}
+use Rattle.std.proofs.Common.{◌≡◌, ℕ, List, ◌∷◌, rules, refl, sym, ap, eqb, ◌∙◌, arith, None, Some, true, false, length, take}
+use mathlib.Core.Bool.{not}
+use lib.Pointwise.{pointwise}
+use lib.ListN.{length-take}
+use lib.Seq.{take_all}
+use Rattle.std.proofs.lemmas.List.{take_more_set}
+use Rattle.std.proofs.lemmas.Iterator.{YieldsList}
+use Rattle.std.proofs.lemmas.Iterator.Splits.{YieldsList-from_slice_split}
+use Rattle.model.specs.Format.{comma, fields_of, after_letter}
+use Rattle.fields.proofs.Fields.{fields-split, reading, first_field, complete, incomplete, too_many, bad-field, next_field, comes, no_more}
+use Rattle.fields.proofs.read_form.Given as given
 use Rattle.fields.proofs.read_form.Goals as goal
+use Rattle.fields.proofs.read_form.Goals.{In_ok-next}
 
-pub returns-then-at-ne1 : goal.returns-then-at-ne1
-unfolding form_says
-returns-then-at-ne1 c =
+-- the first field, and those behind it
+first : (c : In_ok-next) → (rest : List (List ℕ)) × (fields_of c.args.bytes.now ≡ c.in_ok-next.field-0.now ∷ rest) × YieldsList (given.iterator-loop-number).next_gives (λ x. x.now) c.next.new.self rest
+first c =
+    let s = c.split-fields.ensures in
+    let m = comes (YieldsList-from_slice_split {s = c.split-fields.result} _ (λ b. eqb b comma) c.args.bytes.now s.rest s.done s.closure (λ x b q k.
+    let e : b ≡ eqb k.shown.now comma = search rules in
+    (refl, e ∙ ap (λ y. eqb y comma) k.shows))) c.in_ok-next.field-0 c.next.new.self c.in_ok-next.ensures.steps in
+    (m.0, sym (fields-split c.args.bytes.now) ∙ m.1, m.2)
+
+pub returns-then-ne : goal.returns-then-ne
+returns-then-ne c =
     let a = c.args in
-    kind-wrong a.letter (length a.out.now) a.bytes.now (omega arith) (λ e. c.if-at-ne1.true (omega arith))
+    let m = first (goal.at.returns-then-ne c).In_ok-next in
+    let count = length a.row.now in
+    sym (ap (after_letter a.letter count) m.1 ∙ first_field a.letter count c.in_ok-next.field-0.now m.0 true (c.if-ne.ensures ∙ ap (λ ys. not (pointwise eqb c.in_ok-next.field-0.now ys)) c.as_slice.ensures))
 
-pub returns-then-bytes-letter : goal.returns-then-bytes-letter
-unfolding form_says
-returns-then-bytes-letter c =
+pub loop-number-init : goal.loop-number-init
+loop-number-init c =
     let a = c.args in
-    letter-wrong a.letter (length a.out.now) a.bytes.now (omega arith) (omega arith) c.if-bytes-letter.true
-
-pub loop-k-init : goal.loop-k-init
-loop-k-init c =
-    let a = c.args in (
-      refl,
-      refl,
-      omega arith,
-      omega arith,
-      ap (on_from a.bytes.now a.out.now 0 (length a.out.now)) {x = c.field_end-at.result} {y = 1} (omega arith)
-          ∙ letter-right a.letter (length a.out.now) a.bytes.now a.out.now (omega arith) (omega arith) c.if-bytes-letter.false,
+    let m = first (goal.at.loop-number-init c).In_ok-next in
+    let count = length a.row.now in (
+      m.0,
+      m.2,
+      ap (after_letter a.letter count) m.1
+          ∙ first_field a.letter count c.in_ok-next.field-0.now m.0 false (c.if-ne.ensures ∙ ap (λ ys. not (pointwise eqb c.in_ok-next.field-0.now ys)) c.as_slice.ensures),
     )
 
-pub returns-then-at-bytes : goal.returns-then-at-bytes
-unfolding form_says
-returns-then-at-bytes c =
-    let l = c.loop-k in
-    sym (no_field c.args.bytes.now l.out l.k _ l.at (omega arith) (omega arith)) ∙ l.invariant.4
+pub returns-in_err-next-2 : goal.returns-in_err-next-2
+returns-in_err-next-2 c =
+    let l = c.loop-number in
+    let count = length c.args.row.now in
+    let done = take l.number-index l.row in
+    let m = no_more l.invariant.1 _ c.in_err-next-2.ensures.steps in
+    let none : c.from_residual-in_err-next-2.result ≡ None = search rules in
+    rw none (sym (l.invariant.2 ∙ ap (reading count done) m ∙ incomplete count done (λ e. omega (arith, length-take l.number-index l.row, l.auto.row))))
 
-pub returns-in-Bad : goal.returns-in-Bad
-unfolding form_says number_says
-returns-in-Bad c =
-    let l = c.loop-k in
-    sym (bad-field c.args.bytes.now l.out l.k _ l.at c.field_end-at-in-loop-k.result (omega arith) (omega arith) (omega arith)
-    (sym c.read_number-number.ensures ∙ ap number_says c.in-Bad.is))
-    ∙ l.invariant.4
+pub returns-in_err-number : goal.returns-in_err-number
+returns-in_err-number c =
+    let l = c.loop-number in
+    let count = length c.args.row.now in
+    let done = take l.number-index l.row in
+    let m = comes l.invariant.1 c.in_ok-next-2.field-0 c.next-in-loop-number.new.self c.in_ok-next-2.ensures.steps in
+    let none : c.from_residual-in_err-number.result ≡ None = search rules in
+    rw none (sym (l.invariant.2 ∙ ap (reading count done) m.1 ∙ bad-field count done c.in_ok-next-2.field-0.now m.0 (sym c.read_number.ensures ∙ c.in_err-number.was)))
 
-pub loop-k-preserved : goal.loop-k-preserved
-unfolding number_says
-loop-k-preserved c =
-    let l = c.loop-k in (
-      refl,
-      simp length-set l.invariant.1,
-      omega arith,
-      omega arith,
-      sym (next_field c.args.bytes.now l.out l.k _ l.at c.field_end-at-in-loop-k.result (omega arith) (omega arith) (omega arith)
-          _ (omega arith) (sym c.read_number-number.ensures ∙ ap number_says c.in-Value.is))
-          ∙ l.invariant.4,
+pub loop-number-preserved : goal.loop-number-preserved
+loop-number-preserved c =
+    let l = c.loop-number in
+    let count = length c.args.row.now in
+    let done = take l.number-index l.row in
+    let m = comes l.invariant.1 c.in_ok-next-2.field-0 c.next-in-loop-number.new.self c.in_ok-next-2.ensures.steps in (
+      m.0,
+      m.2,
+      l.invariant.2 ∙ ap (reading count done) m.1 ∙ next_field count done c.in_ok-next-2.field-0.now m.0 c.in_ok-number.field-0 (sym c.read_number.ensures ∙ c.in_ok-number.was)
+          ∙ ap (λ ns. reading count ns m.0) (sym (take_more_set l.row l.number-index c.in_ok-number.field-0 (omega (arith, l.auto.row)))),
     )
 
-pub returns : goal.returns
-returns c =
-    let l = c.loop-k in
-    all_read c.args.bytes.now l.out l.k _ l.at (omega arith) (omega arith) (omega arith) ∙ l.invariant.4
+pub returns-in-None : goal.returns-in-None
+returns-in-None c =
+    let l = c.loop-number in
+    let count = length c.args.row.now in
+    let done = take l.number-index l.row in
+    let m = no_more l.invariant.1 c.next-2.new.self (search rules) in
+    ap Some (sym (take_all l.number-index l.row (omega (arith, l.auto.row))))
+    ∙ sym (l.invariant.2 ∙ ap (reading count done) m ∙ complete count done (omega (arith, length-take l.number-index l.row, l.auto.row)))
+
+pub returns-in-Some : goal.returns-in-Some
+returns-in-Some c =
+    let l = c.loop-number in
+    let count = length c.args.row.now in
+    let done = take l.number-index l.row in
+    let m = comes l.invariant.1 c.in-Some.field-0 c.next-2.new.self (search rules) in
+    sym (l.invariant.2 ∙ ap (reading count done) m.1 ∙ too_many count done c.in-Some.field-0.now m.0 (omega (arith, length-take l.number-index l.row, l.auto.row)))

@@ -3,13 +3,12 @@ use mathlib.Core.Path.{◌≡◌}
 use lib.ListN.{length}
 use Rattle.model.specs.Paths.{is_breaker}
 use Rattle.graphs.specs.Sum.{on}
-use Rattle.buffer.specs.Buffer.{network_in}
 use Rattle.tree.specs.Linked.{code_end}
 use Rattle.marks.proofs.Marking.{Below}
 use Rattle.marks.proofs.fill_breakers.Given as goal
 
 abbrev pub invariant-loop-code : goal.invariant-loop-code
-invariant-loop-code l = (l.code-end ≡ 2 * length (network_in l.net).lines + 1) × (1 ≤ l.code) × (l.code ≤ l.code-end) × (length l.marks ≡ 1537) × Below (λ c. on (is_breaker (network_in l.net) (code_end c)) c) l.marks l.code
+invariant-loop-code l = (l.code-end ≡ 2 * length l.net.lines + 1) × (1 ≤ l.code) × (l.code ≤ l.code-end) × (length l.marks ≡ 1537) × Below (λ c. on (is_breaker l.net (code_end c)) c) l.marks l.code
 
 abbrev pub decreases-loop-code : goal.decreases-loop-code
 decreases-loop-code l = l.code-end - l.code

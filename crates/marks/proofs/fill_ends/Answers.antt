@@ -3,7 +3,6 @@ use Prim.Native.Nat.{◌-◌}
 use native.Mathlib.Omega.{arith}
 use lib.ListN.{length-set}
 use Rattle.savings.specs.Breakers.{end_at}
-use Rattle.buffer.specs.Buffer.{network_in}
 use Rattle.tree.specs.Linked.{end_code}
 use Rattle.marks.proofs.fill_ends.Goals as goal
 
@@ -13,7 +12,7 @@ loop-place-init c = (omega arith, omega arith, omega arith, c.no_ends.ensures, �
 pub loop-place-preserved : goal.loop-place-preserved
 loop-place-preserved c =
     let h = c.loop-place in
-    (omega arith, omega arith, omega arith, simp length-set h.invariant.3, below_next (λ p. end_code (end_at (network_in c.args.net.now) p)) h.ends h.place c.end_of.result (omega arith) c.end_of.ensures.0 h.invariant.4)
+    (omega arith, omega arith, omega arith, simp length-set h.invariant.3, below_next (λ p. end_code (end_at c.args.net.now p)) h.ends h.place c.end_of.result (omega arith) c.end_of.ensures.0 h.invariant.4)
 
 pub returns : goal.returns
 returns c = (λ p i j. c.loop-place.invariant.4 p i (omega arith), c.loop-place.invariant.3)

@@ -1,7 +1,6 @@
 use mathlib.Core.Path.{◌≡◌, refl, sym, ap, ◌∙◌, subst}
 use native.Mathlib.Omega.{arith}
 use lib.ListN.{length, get_or, set}
-use Rattle.buffer.specs.Buffer.{network_in}
 use Rattle.tree.specs.Linked.{code_end}
 use Rattle.outage.specs.Below.{Filled}
 use Rattle.outage.proofs.Paths.{station-levels, at-line}
@@ -81,7 +80,7 @@ line_sum-bounds-sums-line t c =
 pub line_sum-returns : goal.line_sum-returns
 line_sum-returns t c =
     let g = c.args in
-    let N = network_in g.net.now in
+    let N = g.net.now in
     let at = (g.entered + 1) / 2 - 1 in
     elim c.if-not-hangs.branch [
       | line_sum-then-not-hangs w ↦ (
@@ -101,23 +100,23 @@ pub station_sum-loop-end-init : goal.station_sum-loop-end-init
 station_sum-loop-end-init t c =
     let g = c.args in (
       refl,
-      subst (λ n. Part (network_in g.net.now) g.nexts.now g.came g.station g.levels (get_or g.chains.now (g.station - 1) 0) n g.sums.now g.sums.now) (sym c.customers-sum.ensures)
-          (part-start (network_in g.net.now) c.requires.0.read c.requires.0.rules g.chains.now g.nexts.now c.requires.0.linked g.came g.station g.levels c.requires.1 g.sums.now),
+      subst (λ n. Part g.net.now g.nexts.now g.came g.station g.levels (get_or g.chains.now (g.station - 1) 0) n g.sums.now g.sums.now) (sym c.customers-sum.ensures)
+          (part-start g.net.now c.requires.0.read c.requires.0.rules g.chains.now g.nexts.now c.requires.0.linked g.came g.station g.levels c.requires.1 g.sums.now),
     )
 
 pub station_sum-overflow_sub-levels : goal.station_sum-overflow_sub-levels
 station_sum-overflow_sub-levels t c =
     let g = c.args in
-    station-levels (network_in g.net.now) c.requires.0.read c.requires.0.rules (code_end g.came) g.station g.levels c.requires.1
+    station-levels g.net.now c.requires.0.read c.requires.0.rules (code_end g.came) g.station g.levels c.requires.1
 
 pub station_sum-line_sum-behind-requires : goal.station_sum-line_sum-behind-requires
 station_sum-line_sum-behind-requires t c =
     let g = c.args in
     let h = c.loop-end in (
-      omega (arith, c.decreases, station-levels (network_in g.net.now) c.requires.0.read c.requires.0.rules (code_end g.came) g.station g.levels c.requires.1),
+      omega (arith, c.decreases, station-levels g.net.now c.requires.0.read c.requires.0.rules (code_end g.came) g.station g.levels c.requires.1),
       (
         c.requires.0,
-        at-line (network_in g.net.now) c.requires.0.read c.requires.0.rules (code_end g.came) g.station g.levels c.requires.1 (code_end h.end) (part-leaves (network_in g.net.now) g.nexts.now g.came g.station g.levels h.end h.sum g.sums.now h.sums h.invariant.1 c.loop-end-test.true c.if-onward.true),
+        at-line g.net.now c.requires.0.read c.requires.0.rules (code_end g.came) g.station g.levels c.requires.1 (code_end h.end) (part-leaves g.net.now g.nexts.now g.came g.station g.levels h.end h.sum g.sums.now h.sums h.invariant.1 c.loop-end-test.true c.if-onward.true),
         h.invariant.0 ∙ c.requires.2,
       ),
     )
@@ -129,15 +128,15 @@ station_sum-with_those_behind-sum-requires t c =
     omega (
       arith,
       c.line_sum-behind.ensures.0,
-      part-fits (network_in g.net.now) g.nexts.now g.came g.station g.levels h.end h.sum g.sums.now h.sums h.invariant.1 c.loop-end-test.true c.if-onward.true,
-      station-size (network_in g.net.now) c.requires.0.read c.requires.0.rules (code_end g.came) g.station g.levels c.requires.1,
+      part-fits g.net.now g.nexts.now g.came g.station g.levels h.end h.sum g.sums.now h.sums h.invariant.1 c.loop-end-test.true c.if-onward.true,
+      station-size g.net.now c.requires.0.read c.requires.0.rules (code_end g.came) g.station g.levels c.requires.1,
     )
 
 pub station_sum-loop-end-smaller : goal.station_sum-loop-end-smaller
 station_sum-loop-end-smaller t c =
     let g = c.args in
     let h = c.loop-end in
-    part-less (network_in g.net.now) g.nexts.now g.came g.station g.levels h.end h.sum g.sums.now h.sums h.invariant.1 c.loop-end-test.true (read_fits (network_in g.net.now) c.requires.0.read).lines
+    part-less g.net.now g.nexts.now g.came g.station g.levels h.end h.sum g.sums.now h.sums h.invariant.1 c.loop-end-test.true (read_fits g.net.now c.requires.0.read).lines
 
 pub station_sum-loop-end-preserved : goal.station_sum-loop-end-preserved
 station_sum-loop-end-preserved t c =
@@ -148,14 +147,14 @@ station_sum-loop-end-preserved t c =
     elim c.if-onward.branch [
       | station_sum-then-onward w ↦ (
         ap length w.sums-is ∙ w.line_sum-behind.auto.sums ∙ h.invariant.0,
-        subst (λ x. Part (network_in g.net.now) g.nexts.now g.came g.station g.levels (get_or g.nexts.now (h.end - 1) 0) j.sum g.sums.now x) (sym w.sums-is)
-            (subst (λ x. Part (network_in g.net.now) g.nexts.now g.came g.station g.levels (get_or g.nexts.now (h.end - 1) 0) x g.sums.now w.line_sum-behind.new.sums) (sym (w.sum-is ∙ w.with_those_behind-sum.ensures))
-            (part-more (network_in g.net.now) g.nexts.now g.came g.station g.levels h.end h.sum g.sums.now h.sums h.invariant.1 z w.if-onward.true w.line_sum-behind.result w.line_sum-behind.new.sums w.line_sum-behind.ensures.0 w.line_sum-behind.ensures.1)),
+        subst (λ x. Part g.net.now g.nexts.now g.came g.station g.levels (get_or g.nexts.now (h.end - 1) 0) j.sum g.sums.now x) (sym w.sums-is)
+            (subst (λ x. Part g.net.now g.nexts.now g.came g.station g.levels (get_or g.nexts.now (h.end - 1) 0) x g.sums.now w.line_sum-behind.new.sums) (sym (w.sum-is ∙ w.with_those_behind-sum.ensures))
+            (part-more g.net.now g.nexts.now g.came g.station g.levels h.end h.sum g.sums.now h.sums h.invariant.1 z w.if-onward.true w.line_sum-behind.result w.line_sum-behind.new.sums w.line_sum-behind.ensures.0 w.line_sum-behind.ensures.1)),
       )
       | station_sum-else-onward w ↦ (
         ap length w.sums-is ∙ h.invariant.0,
-        subst (λ x. Part (network_in g.net.now) g.nexts.now g.came g.station g.levels (get_or g.nexts.now (h.end - 1) 0) j.sum g.sums.now x) (sym w.sums-is)
-            (subst (λ x. Part (network_in g.net.now) g.nexts.now g.came g.station g.levels (get_or g.nexts.now (h.end - 1) 0) x g.sums.now h.sums) (sym w.sum-is) (part-skip (network_in g.net.now) g.nexts.now g.came g.station g.levels h.end h.sum g.sums.now h.sums h.invariant.1 z w.if-onward.false)),
+        subst (λ x. Part g.net.now g.nexts.now g.came g.station g.levels (get_or g.nexts.now (h.end - 1) 0) j.sum g.sums.now x) (sym w.sums-is)
+            (subst (λ x. Part g.net.now g.nexts.now g.came g.station g.levels (get_or g.nexts.now (h.end - 1) 0) x g.sums.now h.sums) (sym w.sum-is) (part-skip g.net.now g.nexts.now g.came g.station g.levels h.end h.sum g.sums.now h.sums h.invariant.1 z w.if-onward.false)),
       )
     ]
 
@@ -163,4 +162,4 @@ pub station_sum-returns : goal.station_sum-returns
 station_sum-returns t c =
     let g = c.args in
     let h = c.loop-end in
-    (part-sum (network_in g.net.now) g.nexts.now g.came g.station g.levels h.end h.sum g.sums.now h.sums h.invariant.1 c.loop-end-test.false, part_filled (network_in g.net.now) g.nexts.now g.came g.station g.levels h.end h.sum g.sums.now h.sums h.invariant.1 c.loop-end-test.false)
+    (part-sum g.net.now g.nexts.now g.came g.station g.levels h.end h.sum g.sums.now h.sums h.invariant.1 c.loop-end-test.false, part_filled g.net.now g.nexts.now g.came g.station g.levels h.end h.sum g.sums.now h.sums h.invariant.1 c.loop-end-test.false)

@@ -1,11 +1,10 @@
-use Rattle.buffer.specs.Buffer.{network_in}
 use Rattle.paths.proofs.Passing.{trips-held, counts-held}
 use borrow.Author.Rules.{rules}
 use Rattle.paths.proofs.fill_trips.Goals as goal
 
 pub returns : goal.returns
 returns c =
-    let N = network_in c.args.net.now in
+    let N = c.args.net.now in
     let f = c.fill_breakers in
     let trips = c.met_outwards.new.firsts in
     let counts = c.met_outwards.new.counts in

@@ -2,7 +2,6 @@ use Prim.Native.Nat.{◌-◌}
 use mathlib.Core.Path.{refl}
 use native.Mathlib.Omega.{arith}
 use lib.ListN.{length-set}
-use Rattle.buffer.specs.Buffer.{network_in}
 use Rattle.paths.proofs.Passing.{next_known, done_more, done_all}
 use Rattle.paths.proofs.met_outwards.Goals as goal
 
@@ -13,7 +12,7 @@ pub line_met-met-requires : goal.line_met-met-requires
 line_met-met-requires c =
     let g = c.args in
     let h = c.loop-i in
-    next_known (network_in g.net.now) g.marks.now g.sides.now g.feeders.now g.order.now c.requires.read.2 h.firsts h.counts (omega arith) (omega arith) c.requires.read.0 c.requires.read.1 h.i (omega arith) h.invariant.4
+    next_known g.net.now g.marks.now g.sides.now g.feeders.now g.order.now c.requires.read.2 h.firsts h.counts (omega arith) (omega arith) c.requires.read.0 c.requires.read.1 h.i (omega arith) h.invariant.4
 
 pub overflow_sub-firsts : goal.overflow_sub-firsts
 overflow_sub-firsts c =
@@ -47,11 +46,11 @@ loop-i-preserved c =
       omega arith,
       simp length-set h.invariant.2,
       simp length-set h.invariant.3,
-      done_more (network_in g.net.now) g.marks.now g.sides.now g.feeders.now g.order.now c.requires.read.2 h.firsts h.counts (omega arith) (omega arith) (omega (arith, c.requires.read.0.head.lines, c.requires.read.0.line_count)) h.i c.line_met-met.result (omega arith) c.line_met-met.ensures h.invariant.4,
+      done_more g.net.now g.marks.now g.sides.now g.feeders.now g.order.now c.requires.read.2 h.firsts h.counts (omega arith) (omega arith) (omega (arith, c.requires.read.0.head.lines, c.requires.read.0.line_count)) h.i c.line_met-met.result (omega arith) c.line_met-met.ensures h.invariant.4,
     )
 
 pub returns : goal.returns
 returns c =
     let g = c.args in
     let h = c.loop-i in
-    done_all (network_in g.net.now) g.marks.now g.sides.now g.feeders.now g.order.now c.requires.read.2 h.firsts h.counts (omega arith) (omega arith) h.i (omega arith) h.invariant.4
+    done_all g.net.now g.marks.now g.sides.now g.feeders.now g.order.now c.requires.read.2 h.firsts h.counts (omega arith) (omega arith) h.i (omega arith) h.invariant.4

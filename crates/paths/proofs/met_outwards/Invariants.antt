@@ -1,12 +1,11 @@
 use Prim.Native.Nat.{◌-◌, ◌≤◌}
 use mathlib.Core.Path.{◌≡◌}
 use lib.ListN.{length}
-use Rattle.buffer.specs.Buffer.{network_in}
 use Rattle.paths.proofs.Passing.{Done}
 use Rattle.paths.proofs.met_outwards.Given as goal
 
 abbrev pub invariant-loop-i : goal.invariant-loop-i
-invariant-loop-i l = (l.i-end ≡ length (network_in l.net).lines) × (l.i ≤ l.i-end) × (length l.firsts ≡ length l.initial.firsts) × (length l.counts ≡ length l.initial.counts) × Done (network_in l.net) l.marks l.order l.firsts l.counts l.i
+invariant-loop-i l = (l.i-end ≡ length l.net.lines) × (l.i ≤ l.i-end) × (length l.firsts ≡ length l.initial.firsts) × (length l.counts ≡ length l.initial.counts) × Done l.net l.marks l.order l.firsts l.counts l.i
 
 abbrev pub decreases-loop-i : goal.decreases-loop-i
 decreases-loop-i l = l.i-end - l.i

@@ -1,20 +1,21 @@
-use Rattle.model.specs.Commands.{commanded}
-use Rattle.loading.proofs.Loads.{accepted-holds}
+use Rattle.std.proofs.lemmas.Result.{err_from_is_err_and}
+use Rattle.model.specs.Commands.{commanded, plan_text}
 use Rattle.plans.proofs.Planning.{refused-left, file-left}
 use Rattle.plans.proofs.plan.Goals as goal
 
-pub plan_network-requires : goal.plan_network-requires
-plan_network-requires c =
-    let e = c.in-Accepted.is in
-    (accepted-holds c.args.file.now c.load.new.net c.load.result c.load.ensures.net_after e, c.load.ensures.prepared e, c.requires)
-
-pub returns-in-Refused : goal.returns-in-Refused
+pub returns-in_err-load : goal.returns-in_err-load
 unfolding commanded
-returns-in-Refused c =
-    refused-left c.args.file.now _ c.load.new.net c.load.result c.load.ensures.net_after _ c.in-Refused.is
+returns-in_err-load c =
+    let p = err_from_is_err_and c.from_residual.result c.from_residual.ensures.1 in
+    rw (p.1, p.2) (refused-left c.args.file.now (λ N. plan_text N) c.in_err-load.field-0.0 c.args.text.now c.in_err-load.ensures.answer)
 
-pub returns-in-Accepted : goal.returns-in-Accepted
+pub write_plan-requires : goal.write_plan-requires
+write_plan-requires c =
+    let w = c.search_network-plan.ensures in
+    (record { accepted = c.in_ok-load.ensures.loaded.accepted; few = w.few; long = w.long; found = w.found }, c.requires)
+
+pub returns : goal.returns
 unfolding commanded
-returns-in-Accepted c =
-    let n = c.plan_network in
-    file-left c.args.file.now _ c.load.new.net c.load.result c.load.ensures.net_after n.result c.args.text.now _ c.in-Accepted.is n.ensures
+returns c =
+    let l = c.in_ok-load in
+    file-left c.args.file.now (λ N. plan_text N) c.load.new.self.network l.ensures.answer c.write_plan.result c.args.text.now c.write_plan.new.buf c.write_plan.ensures.written

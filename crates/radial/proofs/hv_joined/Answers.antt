@@ -1,31 +1,30 @@
-use Prim.Native.Nat.{◌+◌, ◌-◌}
 use mathlib.Core.Path.{refl, sym, ◌∙◌}
 use native.Mathlib.Omega.{arith}
+use mathlib.Core.Bool.{false}
 use lib.ListN.{replicate}
-use Rattle.theory.specs.Gathering.{zeros}
-use Rattle.radial.specs.Stations.{label-there, marked_start, marked-skip, marked-set, apart-start, apart-skip, apart_next, marked-joined, apart-joined}
+use Rattle.radial.specs.Stations.{label-there, marked_start, nowhere, marked-skip, marked-set, apart-start, apart-skip, apart_next, marked-joined, apart-joined}
 use Rattle.radial.proofs.hv_joined.Goals as goal
-use Rattle.radial.proofs.hv_joined.Goals.{then-is_hv+else-marks-x-eq1, else-is_hv}
+use Rattle.radial.proofs.hv_joined.Goals.{then-is_hv+else-marks-x, else-is_hv}
 
 pub loop-station-init : goal.loop-station-init
 loop-station-init c =
     let d = c.requires.read in
-    (omega arith, omega arith, omega arith, marked_start d _ (replicate 513 0) refl (zeros 513), apart-start d _)
+    (omega arith, omega arith, omega arith, marked_start d _ (replicate 513 false) refl (nowhere 513), apart-start d _)
 
 pub label_of-x-requires : goal.label_of-x-requires
 label_of-x-requires c =
     label-there c.requires.read c.requires.labelled _ (omega arith) (omega arith)
 
-pub returns-then-marks-x-eq1 : goal.returns-then-marks-x-eq1
-returns-then-marks-x-eq1 c =
-    marked-joined c.requires.read c.requires.labelled c.loop-station.invariant.3 c.label_of-x.ensures.0 (sym c.is_hv.ensures ∙ c.if-is_hv.true) c.if-marks-x-eq1.true
+pub returns-then-marks-x : goal.returns-then-marks-x
+returns-then-marks-x c =
+    marked-joined c.requires.read c.requires.labelled c.loop-station.invariant.3 c.label_of-x.ensures.0 (sym c.is_hv.ensures ∙ c.if-is_hv.true) c.if-marks-x.true
 
 pub loop-station-preserved : goal.loop-station-preserved
 loop-station-preserved c =
     let i = c.loop-station.invariant in
     let e = sym c.is_hv.ensures in
     elim c.if-is_hv.branch [
-      | then-is_hv+else-marks-x-eq1 w ↦ rw w.marks-is (i.0, omega arith, omega arith, marked-set i.3 w.label_of-x.ensures.0 (e ∙ w.if-is_hv.true) w.label_of-x.ensures.1, apart_next i.3 w.label_of-x.ensures.0 i.4 w.if-marks-x-eq1.false)
+      | then-is_hv+else-marks-x w ↦ rw w.marks-is (i.0, omega arith, omega arith, marked-set i.3 w.label_of-x.ensures.0 (e ∙ w.if-is_hv.true) w.label_of-x.ensures.1, apart_next i.3 w.label_of-x.ensures.0 i.4 w.if-marks-x.false)
       | else-is_hv w ↦ rw w.marks-is (i.0, omega arith, omega arith, marked-skip i.3 (e ∙ w.if-is_hv.false), apart-skip i.4 (e ∙ w.if-is_hv.false))
     ]
 

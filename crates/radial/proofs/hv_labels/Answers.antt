@@ -1,18 +1,16 @@
-use Prim.Native.Nat.{◌-◌}
 use mathlib.Core.Path.{refl, sym, ◌∙◌, subst}
 use native.Mathlib.Omega.{arith}
+use mathlib.Core.Bool.{false}
 use lib.ListN.{replicate}
-use Rattle.buffer.specs.Buffer.{network_in}
-use Rattle.theory.specs.Gathering.{zeros}
-use Rattle.radial.specs.Stations.{Marked, label-there, marked_start, marked-skip, marked-set}
+use Rattle.radial.specs.Stations.{Marked, label-there, marked_start, nowhere, marked-skip, marked-set}
 use Rattle.radial.proofs.hv_labels.Goals as goal
 use Rattle.radial.proofs.hv_labels.Goals.{then-is_hv, else-is_hv}
 
 pub loop-station-init : goal.loop-station-init
-loop-station-init c = (omega arith, omega arith, omega arith, marked_start c.requires.read _ (replicate 513 0) refl (zeros 513))
+loop-station-init c = (omega arith, omega arith, omega arith, marked_start c.requires.read _ (replicate 513 false) refl (nowhere 513))
 
-pub label_of-x-requires : goal.label_of-x-requires
-label_of-x-requires c =
+pub label_of-requires : goal.label_of-requires
+label_of-requires c =
     label-there c.requires.read c.requires.labelled _ (omega arith) (omega arith)
 
 pub loop-station-preserved : goal.loop-station-preserved
@@ -20,7 +18,7 @@ loop-station-preserved c =
     let i = c.loop-station.invariant in
     let e = sym c.is_hv.ensures in
     elim c.if-is_hv.branch [
-      | then-is_hv w ↦ rw w.marks-is (i.0, omega arith, omega arith, marked-set i.3 w.label_of-x.ensures.0 (e ∙ w.if-is_hv.true) w.label_of-x.ensures.1)
+      | then-is_hv w ↦ rw w.marks-is (i.0, omega arith, omega arith, marked-set i.3 w.label_of.ensures.0 (e ∙ w.if-is_hv.true) w.label_of.ensures.1)
       | else-is_hv w ↦ rw w.marks-is (i.0, omega arith, omega arith, marked-skip i.3 (e ∙ w.if-is_hv.false))
     ]
 
@@ -28,4 +26,4 @@ pub returns : goal.returns
 returns c =
     let a = c.args in
     let h = c.loop-station in
-    subst (λ n. Marked (network_in a.net.now) a.labels.now n h.marks) (omega arith) h.invariant.3
+    subst (λ n. Marked a.net.now a.labels.now n h.marks) (omega arith) h.invariant.3

@@ -1,6 +1,6 @@
+use Rattle.std.proofs.Common.{refl}
 use borrow.Author.Tests.{eq-eqb, ne_eqb}
 use Rattle.model.specs.Ranges.{largest_of}
-use mathlib.Core.Path.{refl}
 use Rattle.ranges.proofs.largest_of.Goals as goal
 
 pub returns-in-Number : goal.returns-in-Number
@@ -17,8 +17,8 @@ returns-in-Lines c = rw c.in-Lines.is
 
 pub returns-then-at_hv : goal.returns-then-at_hv
 unfolding largest_of
-returns-then-at_hv c = rw c.in-NoneAtHv.is (rw (eq-eqb c.args.first 1 c.if-at_hv.true, largest_of) refl)
+returns-then-at_hv c = rw c.in-NoneAtHv.is (rw (eq-eqb c.args.context.first 1 c.if-at_hv.true, largest_of) refl)
 
 pub returns-else-at_hv : goal.returns-else-at_hv
 unfolding largest_of
-returns-else-at_hv c = rw c.in-NoneAtHv.is (rw (ne_eqb c.args.first 1 c.if-at_hv.false, largest_of) refl)
+returns-else-at_hv c = rw c.in-NoneAtHv.is (rw (ne_eqb c.args.context.first 1 c.if-at_hv.false, largest_of) refl)

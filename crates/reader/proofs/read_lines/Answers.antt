@@ -1,27 +1,79 @@
-use mathlib.Core.Path.{ap, ◌∙◌}
-use native.Mathlib.Omega.{arith}
-use Prim.Native.Nat.{◌-◌}
-use borrow.Rule.Slice.PartMut.{take_put}
-use Rattle.model.specs.Ranges.{rows, row_l}
-use Rattle.buffer.specs.Buffer.{lines_at, places_at, line_width}
-use Rattle.records.specs.Steps.{step_says}
-use Rattle.records.proofs.Buffers.{part-records}
-use Rattle.reader.proofs.Whole.{part-long}
+use Rattle.std.proofs.Common.{◌≡◌, ◌+◌, ◌-◌, ◌≤◌, [], ◌∷◌, length, ap, sym, subst, refl, rules, arith, Err, ◌∙◌}
+use lib.ListN.{length-append}
+use Rattle.model.specs.Format.{records_of}
+use Rattle.model.specs.Ranges.{row_l}
+use Rattle.model.specs.Network.{kind_l, value, line_of}
+use Rattle.ranges.specs.Kinds.{kind_of}
+use Rattle.network.specs.Changed.{with_lines, with_one_more_line}
+use Rattle.reader.specs.Reading.{left_says}
+use Rattle.reader.proofs.Ranged.{line-bounds}
+use Rattle.reader.proofs.Turns.{turns, turned, stopped, turn, put_lines, add_line, no-lines, one-line, lines-turn}
 use Rattle.reader.proofs.read_lines.Goals as goal
 
-pub read_records-requires : goal.read_records-requires
-unfolding rows row_l
-read_records-requires c =
-    (omega arith, omega arith, omega arith, omega (arith, part-long lines_at (places_at - lines_at) c.args.net.now (omega arith)))
-
-pub returns : goal.returns
-unfolding rows row_l
-returns c =
-    let a = c.args in
-    let d = c.read_records.new.numbers in record {
-      answer = ap (step_says a.file.now c.read_records.result)
-          (part-records line_width a.lines lines_at (places_at - lines_at) a.net.now d (omega arith) (omega (arith, c.read_records.auto.numbers, part-long lines_at (places_at - lines_at) a.net.now (omega arith))))
-          ∙ c.read_records.ensures.answer;
-      position = c.read_records.ensures.position;
-      before = take_put lines_at (places_at - lines_at) a.net.now d (omega arith);
+pub loop-init : goal.loop-init
+loop-init c =
+    let N = c.args.net.now in
+    let i = c.args.records.now.number in
+    let rs = records_of c.args.records.now.rest.now in record {
+      answer = ap (λ h. turns kind_l put_lines add_line h N i (h.lines - 0) rs) c.head-head.ensures
+          ∙ ap (λ n. turns kind_l put_lines add_line N.head N i n rs) {x = N.head.lines - 0} {y = N.head.lines} (omega arith)
+          ∙ lines-turn N i N.head.lines rs;
+      head = refl;
+      others = (refl, refl);
+      first = c.head-head.ensures;
+      count = ap (λ xs. length xs) c.requires.0;
+      number = omega arith;
+      rest = omega arith;
     }
+
+pub returns-in_err-row-clause-answer : goal.returns-in_err-row-clause-answer
+unfolding kind_of
+returns-in_err-row-clause-answer c =
+    let h = c.head-head.result.now in
+    let l = c.loop in
+    let rs = records_of l.records.rest.now in
+    let refused : c.from_residual.result ≡ Err c.in_err-row.field-0.0 = search rules in
+    ap (λ r. left_says r l.net c.next.new.self.rest.now) refused
+    ∙ sym (stopped kind_l put_lines add_line h l.net l.records.number rs (h.lines - (l.counter + 1)) _ _ c.in_err-row.ensures.numbers)
+    ∙ ap (λ n. turns kind_l put_lines add_line h l.net l.records.number n rs) {y = h.lines - l.counter} (omega arith)
+    ∙ l.invariant.answer
+
+pub line_of-requires : goal.line_of-requires
+unfolding kind_of kind_l row_l
+line_of-requires c =
+    let row = c.in_ok-row in
+    let len = ap (λ vs. length vs) c.deref.ensures.0 ∙ row.ensures.width in
+    let b = line-bounds c.head-head.result.now.stations c.head-head.result.now.lines row.row.items row.ensures.width row.ensures.ranges in
+    (len, subst (λ vs. value vs 3 ≤ 2) (sym c.deref.ensures.0) b.0, subst (λ vs. value vs 4 ≤ 2) (sym c.deref.ensures.0) b.1)
+
+pub loop-preserved : goal.loop-preserved
+unfolding kind_of with_one_more_line with_lines
+loop-preserved c =
+    let h = c.head-head.result.now in
+    let l = c.loop in
+    let vs = c.in_ok-row.row.items in
+    let rs = records_of l.records.rest.now in
+    let rest = records_of c.next.new.self.rest.now in
+    let on = c.in_ok-row.ensures.goes_on in
+    let m : c.add_line.new.self ≡ add_line l.net vs = c.add_line.ensures ∙ ap (with_one_more_line l.net) (c.line_of.ensures ∙ ap line_of c.deref.ensures.0) in record {
+      answer = ap (λ M. turns kind_l put_lines add_line h M c.next.new.self.number (h.lines - (l.counter + 1)) rest) m
+          ∙ ap (λ i. turns kind_l put_lines add_line h (add_line l.net vs) i (h.lines - (l.counter + 1)) rest) on.0
+          ∙ sym (turn kind_l put_lines add_line h l.net l.records.number rs (h.lines - (l.counter + 1)) vs rest c.in_ok-row.ensures.numbers (one-line l.net vs))
+          ∙ ap (λ n. turns kind_l put_lines add_line h l.net l.records.number n rs) {y = h.lines - l.counter} (omega arith)
+          ∙ l.invariant.answer;
+      head = ap (λ M. M.head) m ∙ l.invariant.head;
+      others = (ap (λ M. M.stations) m ∙ l.invariant.others.0, ap (λ M. M.places) m ∙ l.invariant.others.1);
+      first = l.invariant.first;
+      count = ap (λ M. length M.lines) m ∙ length-append l.net.lines (line_of vs ∷ []) ∙ ap (λ n. n + 1) l.invariant.count;
+      number = omega (arith, on.0);
+      rest = omega (arith, on.0, on.1);
+    }
+
+pub returns-clause-answer : goal.returns-clause-answer
+returns-clause-answer c =
+    let h = c.head-head.result.now in
+    let l = c.loop in
+    let rs = records_of l.records.rest.now in
+    sym (turned kind_l put_lines add_line h l.net l.records.number rs (no-lines l.net))
+    ∙ ap (λ n. turns kind_l put_lines add_line h l.net l.records.number n rs) {x = 0} {y = h.lines - l.counter} (omega arith)
+    ∙ l.invariant.answer

@@ -1,109 +1,112 @@
-use mathlib.Core.Path.{◌≡◌, refl, sym, subst, ◌∙◌}
-use Prim.Native.Nat.{◌-◌}
-use native.Mathlib.Omega.{arith}
-use Rattle.model.specs.Ranges.{rows, row_p}
-use Rattle.model.specs.Network.{place_of}
-use Rattle.buffer.specs.Buffer.{network_in}
-use Rattle.buffer.specs.Fits.{Fits}
-use Rattle.network_changes.specs.Changed.{with_one_more}
-use Rattle.network_changes.specs.Sizes.{more-fits}
-use Rattle.buffer.specs.Parts.{stations-counted, lines-counted}
-use Rattle.records.proofs.Steps.{says-next, says-stopped, next-forward}
-use Rattle.reader.specs.Says.{read_says}
+use Rattle.std.proofs.Common.{◌≡◌, ◌≤◌, length, ap, sym, subst, rules, arith, Err, ◌∙◌}
+use borrow.Author.Tests.{eqb-true, eqb-false}
+use Rattle.model.specs.Answer.{refused}
+use Rattle.model.specs.Format.{records_of}
+use Rattle.model.specs.Ranges.{row_p}
+use Rattle.model.specs.Network.{kind_p, value, place_of, well_placed}
+use Rattle.ranges.specs.Kinds.{kind_of}
+use Rattle.network.specs.Changed.{with_places, with_one_more}
+use Rattle.network.specs.View.{side_number, place_of_held}
+use Rattle.records.proofs.Next.{no-records}
+use Rattle.reader.specs.Reading.{says_of, last_place}
+use Rattle.reader.proofs.Ranged.{place-bounds}
 use Rattle.reader.proofs.Placed.{not-65th}
-use Rattle.reader.proofs.InBuffer.{at-start, others-left, fits-start, kept, stopped, in_bounds, misplaced, next, ended}
+use Rattle.reader.proofs.Places.{some-record, reading, places-read, ended, stopped, misplaced, next}
 use Rattle.reader.proofs.read_places.Goals as goal
 
-pub loop-at-init : goal.loop-at-init
-loop-at-init c =
-    let a = c.args in
-    let k = c.keep_places in
-    let N = network_in a.net.now in
-    let N₀ = network_in k.new.net in
-    (c.station_count-stations.ensures, c.line_count-lines.ensures, fits-start N N₀ k.ensures c.requires.1 c.requires.2, refl, omega arith, at-start N N₀ k.ensures a.file.now a.from)
+pub loop-head-init : goal.loop-head-init
+loop-head-init c =
+    let N = c.args.net.now in
+    let i = c.args.records.now.number in
+    let rs = records_of c.args.records.now.rest.now in record {
+      answer = ap (λ h. reading h N i rs) c.head-head.ensures ∙ places-read N i rs;
+      lines = c.requires.0 ∙ sym (ap (λ h. h.lines) c.head-head.ensures);
+      number = c.requires.1;
+    }
 
-pub read_record-step-requires : goal.read_record-step-requires
-unfolding rows row_p
-read_record-step-requires c = (omega arith, omega arith, c.loop-at.invariant.3)
+pub returns-in_err-row : goal.returns-in_err-row
+unfolding kind_of
+returns-in_err-row c =
+    let h = c.head-head.result.now in
+    let l = c.loop-head in
+    let rs = records_of l.records.rest.now in
+    let some = some-record l.records.rest.now (eqb-false _ _ (sym c.loop-head-test.ensures)) in
+    let none : c.from_residual.result ≡ Err c.in_err-row.field-0.0 = search rules in
+    ap (λ r. says_of r l.net) none
+    ∙ sym (stopped h l.net l.records.number rs some _ _ c.in_err-row.ensures.numbers)
+    ∙ l.invariant.answer
 
-pub returns-in-Stopped : goal.returns-in-Stopped
-unfolding read_says
-returns-in-Stopped c =
-    let a = c.args in
-    let l = c.loop-at in
-    let N = network_in l.net in
-    let p = c.place_count-n in
-    let v = c.read_record-step.new.numbers in
-    let k = c.keep_places in
-    sym (stopped a.file.now N l.before l.at _ _ p.result (l.invariant.0 ∙ stations-counted l.net) (l.invariant.1 ∙ lines-counted l.net) p.ensures (omega arith) _ _ (says-stopped a.file.now c.read_record-step.result v _ c.read_record-step.ensures.answer _ _ c.in-Stopped.is))
-    ∙ l.invariant.5
-    ∙ others-left (network_in a.net.now) (network_in k.new.net) k.ensures _
+pub place_of-place-requires : goal.place_of-place-requires
+unfolding kind_of kind_p row_p
+place_of-place-requires c =
+    let h = c.head-head.result.now in
+    let row = c.in_ok-row in
+    let b = place-bounds h.stations h.lines row.row.items row.ensures.width row.ensures.ranges in (
+      ap (λ vs. length vs) c.deref.ensures.0 ∙ row.ensures.width,
+      subst (λ vs. 1 ≤ value vs 1) (sym c.deref.ensures.0) b.2,
+      subst (λ vs. value vs 1 ≤ 2) (sym c.deref.ensures.0) b.3,
+    )
 
 pub well_placed-requires : goal.well_placed-requires
+unfolding kind_of kind_p row_p place_of
 well_placed-requires c =
-    let a = c.args in
-    let l = c.loop-at in
-    let N = network_in l.net in
-    let p = c.place_count-n in
-    let v = c.read_record-step.new.numbers in
-    let b = in_bounds a.file.now N l.before l.at _ _ p.result (l.invariant.0 ∙ stations-counted l.net) (l.invariant.1 ∙ lines-counted l.net) p.ensures (omega arith) v c.in-Next.next (says-next a.file.now c.read_record-step.result v _ c.read_record-step.ensures.answer c.in-Next.next c.in-Next.is) (c.read_record-step.auto.numbers ∙ l.invariant.3) in
-    record { line = record { fits = l.invariant.2; low = b.0; high = omega (arith, b.1, l.invariant.1) }; first = b.2; second = b.3 }
+    let h = c.head-head.result.now in
+    let l = c.loop-head in
+    let row = c.in_ok-row in
+    let vs = row.row.items in
+    let p : place_of_held c.place_of-place.result ≡ place_of vs = c.place_of-place.ensures ∙ ap place_of c.deref.ensures.0 in
+    let b = place-bounds h.stations h.lines vs row.ensures.width row.ensures.ranges in
+    let line : c.place_of-place.result.line ≡ value vs 0 = ap (λ q. q.line) p in
+    let side : side_number c.place_of-place.result.side ≡ value vs 1 = ap (λ q. q.side) p in
+    record { line = record { low = omega (arith, line, b.0); high = omega (arith, line, b.1, l.invariant.lines) }; first = omega (arith, side, b.2); second = omega (arith, side, b.3) }
 
 pub returns-then-not-well_placed : goal.returns-then-not-well_placed
-unfolding read_says
+unfolding kind_of
 returns-then-not-well_placed c =
-    let a = c.args in
-    let l = c.loop-at in
-    let N = network_in l.net in
-    let p = c.place_count-n in
-    let v = c.read_record-step.new.numbers in
-    let k = c.keep_places in
-    let w = c.well_placed in
-    sym (misplaced a.file.now N l.before l.at _ _ p.result (l.invariant.0 ∙ stations-counted l.net) (l.invariant.1 ∙ lines-counted l.net) p.ensures (omega arith) v c.in-Next.next (says-next a.file.now c.read_record-step.result v _ c.read_record-step.ensures.answer c.in-Next.next c.in-Next.is) (sym c.if-not-well_placed.true ∙ w.ensures))
-    ∙ l.invariant.5
-    ∙ others-left (network_in a.net.now) (network_in k.new.net) k.ensures _
+    let h = c.head-head.result.now in
+    let l = c.loop-head in
+    let rs = records_of l.records.rest.now in
+    let some = some-record l.records.rest.now (eqb-false _ _ (sym c.loop-head-test.ensures)) in
+    let row = c.in_ok-row in
+    let vs = row.row.items in
+    let rest = records_of c.next.new.self.rest.now in
+    let p : place_of_held c.place_of-place.result ≡ place_of vs = c.place_of-place.ensures ∙ ap place_of c.deref.ensures.0 in
+    let well = c.if-not-well_placed.ensures ∙ ap (λ q. well_placed l.net.lines (length l.net.places) (last_place l.net.places) q) p in
+    ap (λ n. refused 3 n) c.number-record.ensures
+    ∙ sym (misplaced h l.net l.records.number rs some vs rest row.ensures.numbers well)
+    ∙ l.invariant.answer
 
 pub add_place-requires : goal.add_place-requires
 add_place-requires c =
-    let l = c.loop-at in
-    let p = c.place_count-n in
-    let w = c.well_placed in
-    let few = not-65th (network_in l.net).lines p.result (place_of l.before) _ (sym c.if-not-well_placed.false ∙ w.ensures) in
-    (l.invariant.2, omega (arith, few, p.ensures))
+    let l = c.loop-head in
+    not-65th l.net.lines (length l.net.places) (last_place l.net.places) _ c.if-not-well_placed.ensures
 
-pub loop-at-smaller : goal.loop-at-smaller
-loop-at-smaller c =
-    let a = c.args in
-    let l = c.loop-at in
-    omega (arith, next-forward a.file.now l.at c.read_record-step.result c.read_record-step.ensures.position c.in-Next.next c.in-Next.is)
-
-pub loop-at-preserved : goal.loop-at-preserved
-unfolding place_of
-loop-at-preserved c =
-    let a = c.args in
-    let l = c.loop-at in
-    let N = network_in l.net in
-    let p = c.place_count-n in
-    let v = c.read_record-step.new.numbers in
-    let w = c.well_placed in
-    let well = sym c.if-not-well_placed.false ∙ w.ensures in
-    let few = not-65th N.lines p.result (place_of l.before) (place_of v) well in
-    let M = network_in c.add_place.new.net in
-    let e : M ≡ with_one_more N (place_of v) = c.add_place.ensures in (
-      l.invariant.0 ∙ (kept N M (place_of v) e).0,
-      l.invariant.1 ∙ (kept N M (place_of v) e).1,
-      subst Fits (sym e) (more-fits N l.invariant.2 (place_of v) (omega (arith, few, p.ensures))),
-      (c.read_record-step.auto.numbers ∙ l.invariant.3),
-      omega (arith, next-forward a.file.now l.at c.read_record-step.result c.read_record-step.ensures.position c.in-Next.next c.in-Next.is),
-      sym (next a.file.now N l.before l.at _ _ p.result (l.invariant.0 ∙ stations-counted l.net) (l.invariant.1 ∙ lines-counted l.net) p.ensures (omega arith) v c.in-Next.next (says-next a.file.now c.read_record-step.result v _ c.read_record-step.ensures.answer c.in-Next.next c.in-Next.is) well M e) ∙ l.invariant.5,
-    )
+pub loop-head-preserved : goal.loop-head-preserved
+unfolding kind_of with_one_more with_places
+loop-head-preserved c =
+    let h = c.head-head.result.now in
+    let l = c.loop-head in
+    let rs = records_of l.records.rest.now in
+    let some = some-record l.records.rest.now (eqb-false _ _ (sym c.loop-head-test.ensures)) in
+    let row = c.in_ok-row in
+    let vs = row.row.items in
+    let rest = records_of c.next.new.self.rest.now in
+    let p : place_of_held c.place_of-place.result ≡ place_of vs = c.place_of-place.ensures ∙ ap place_of c.deref.ensures.0 in
+    let well = c.if-not-well_placed.ensures ∙ ap (λ q. well_placed l.net.lines (length l.net.places) (last_place l.net.places) q) p in
+    let on = row.ensures.goes_on in
+    let m : c.add_place.new.self ≡ with_one_more l.net (place_of vs) = c.add_place.ensures ∙ ap (with_one_more l.net) p in record {
+      answer = ap (λ M. reading h M c.next.new.self.number rest) m
+          ∙ ap (λ i. reading h (with_one_more l.net (place_of vs)) i rest) on.0
+          ∙ sym (next h l.net l.records.number rs some vs rest row.ensures.numbers well)
+          ∙ l.invariant.answer;
+      lines = ap (λ M. length M.lines) m ∙ l.invariant.lines;
+      number = omega (arith, on.0, on.1);
+    }
 
 pub returns : goal.returns
-unfolding read_says
 returns c =
-    let a = c.args in
-    let l = c.loop-at in
-    let k = c.keep_places in
-    sym (ended a.file.now (network_in l.net) l.before l.at (omega arith))
-    ∙ l.invariant.5
-    ∙ others-left (network_in a.net.now) (network_in k.new.net) k.ensures _
+    let h = c.head-head.result.now in
+    let l = c.loop-head in
+    let rs = records_of l.records.rest.now in
+    sym (ended h l.net l.records.number rs (no-records l.records.rest.now (eqb-true _ _ (sym c.loop-head-test.ensures))))
+    ∙ l.invariant.answer

@@ -1,17 +1,15 @@
-use mathlib.Core.Path.{◌≡◌}
-use Prim.Native.Nat.{◌-◌, ◌≤◌}
-use lib.ListN.{length, drop}
+use Rattle.std.specs.Prelude.{◌≡◌, ◌+◌, ◌<◌, ◌^◌, length}
 use Rattle.model.specs.Format.{records_of}
-use Rattle.buffer.specs.Buffer.{network_in}
-use Rattle.buffer.specs.Fits.{Fits}
-use Rattle.reader.specs.Places.{with_places_of}
-use Rattle.reader.proofs.InBuffer.{read_on}
+use Rattle.reader.specs.Reading.{more_places}
+use Rattle.reader.proofs.Places.{reading}
 use Rattle.reader.proofs.read_places.Given as goal
 
-abbrev pub invariant-loop-at : goal.invariant-loop-at
-invariant-loop-at l =
-    (l.stations ≡ length (network_in l.net).stations) × (l.lines ≡ length (network_in l.net).lines) × Fits (network_in l.net) × (length l.place ≡ 4) × (l.at ≤ length l.file)
-    × (read_on l.file (network_in l.net) l.before l.at ≡ with_places_of (network_in l.initial.net) (records_of (drop l.from l.file)))
+abbrev pub invariant-loop-head : goal.invariant-loop-head
+invariant-loop-head l = record {
+  answer : reading l.head l.net l.records.number (records_of l.records.rest.now) ≡ more_places l.initial.net l.initial.records.number (records_of l.initial.records.rest.now);
+  lines : length l.net.lines ≡ l.head.lines;
+  number : l.records.number + length l.records.rest.now < 2 ^ 64;
+}
 
-abbrev pub decreases-loop-at : goal.decreases-loop-at
-decreases-loop-at l = length l.file - l.at
+abbrev pub decreases-loop-head : goal.decreases-loop-head
+decreases-loop-head l = length l.records.rest.now

@@ -1,26 +1,31 @@
-use mathlib.Core.Path.{sym, ◌∙◌}
-use native.Mathlib.Omega.{arith}
-use Rattle.model.specs.Network.{place_of}
+use Rattle.std.proofs.Common.{ap, sym, arith, eqb, ◌∙◌}
+use Rattle.model.specs.Lists.{numbered}
+use Rattle.model.specs.Network.{no_line, state_at, comes_after}
 use Rattle.model.specs.Paths.{state}
-use Rattle.buffer.specs.Buffer.{network_in}
+use Rattle.network.specs.View.{place_of_held}
+use Rattle.reader.specs.Reading.{last_place}
 use Rattle.reader.proofs.Placed.{too_many, out_of_order, by_state}
 use Rattle.reader.proofs.well_placed.Goals as goal
+use Rattle.reader.proofs.well_placed.Goals.{then-room, else-room}
 
-pub returns-then-n-ge64 : goal.returns-then-n-ge64
-returns-then-n-ge64 c =
+pub returns-then-comes_last : goal.returns-then-comes_last
+unfolding state
+returns-then-comes_last c =
     let a = c.args in
-    too_many (network_in a.net.now).lines a.n (place_of a.before.now) (place_of a.place.now) c.if-n-ge64.true
+    elim c.if-room.branch [
+      | then-room w ↦
+          by_state a.net.now.lines _ _ (place_of_held a.place.now) (omega arith)
+          (sym (ap (λ ps. comes_after (last_place ps) (place_of_held a.place.now)) w.places.ensures) ∙ sym w.comes_last.ensures ∙ sym w.value-is ∙ c.if-comes_last.true)
+          _ (c.is_plain.ensures ∙ ap (λ s. eqb (state_at (numbered no_line a.net.now.lines a.place.now.line) s) 0) c.number.ensures)
+      | else-room w ↦ cc
+    ]
 
-pub returns-then-not-comes_after : goal.returns-then-not-comes_after
-returns-then-not-comes_after c =
+pub returns-else-comes_last : goal.returns-else-comes_last
+returns-else-comes_last c =
     let a = c.args in
-    out_of_order (network_in a.net.now).lines a.n (place_of a.before.now) (place_of a.place.now)
-    (sym c.comes_after.ensures ∙ c.if-not-comes_after.true)
-
-pub returns : goal.returns
-unfolding place_of state
-returns c =
-    let a = c.args in
-    let f = c.comes_after in
-    by_state (network_in a.net.now).lines a.n (place_of a.before.now) (place_of a.place.now) (omega arith)
-    (sym f.ensures ∙ c.if-not-comes_after.false) _ c.is_plain.ensures
+    elim c.if-room.branch [
+      | then-room w ↦
+          c.if-comes_last.false ∙ out_of_order a.net.now.lines _ _ (place_of_held a.place.now)
+          (sym (ap (λ ps. comes_after (last_place ps) (place_of_held a.place.now)) w.places.ensures) ∙ sym w.comes_last.ensures ∙ sym w.value-is ∙ c.if-comes_last.false)
+      | else-room w ↦ c.if-comes_last.false ∙ too_many a.net.now.lines _ _ (place_of_held a.place.now) (omega arith)
+    ]

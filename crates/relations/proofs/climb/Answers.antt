@@ -3,7 +3,6 @@ use mathlib.Core.Path.{sym, subst}
 use native.Mathlib.Omega.{arith}
 use lib.ListN.{length, set}
 use Rattle.savings.specs.Breakers.{end_at}
-use Rattle.buffer.specs.Buffer.{network_in}
 use Rattle.sets.specs.Onward.{onward}
 use Rattle.relations.specs.Climb.{is_above, place_above}
 use Rattle.relations.proofs.Climbing.{Climbed, level, level-less, climb-start, climb-next, climb-end}
@@ -16,7 +15,7 @@ above_of-above-requires c = (c.requires.0, c.requires.1, c.requires.2, c.require
 pub loop-above-init : goal.loop-above-init
 loop-above-init c =
     let g = c.args in
-    let N = network_in g.net.now in
+    let N = g.net.now in
     let n = length N.places in
     subst (λ a. Climbed n (is_above N) g.place a g.relations.now g.relations.now) (sym c.above_of-above.ensures) (climb-start n (is_above N) (place_above N) (λ p. length (onward N (end_at N p))) (climb-places N c.requires.0) c.requires.0.read.place_count g.place c.requires.4 g.relations.now c.requires.5)
 
@@ -50,7 +49,7 @@ above_of-above-requires-in-loop-above c = (c.requires.0, c.requires.1, c.require
 pub loop-above-smaller : goal.loop-above-smaller
 loop-above-smaller c =
     let g = c.args in
-    let N = network_in g.net.now in
+    let N = g.net.now in
     let n = length N.places in
     let h = c.loop-above in
     subst (λ a. level (λ p. length (onward N (end_at N p))) a < level (λ p. length (onward N (end_at N p))) h.above) (sym c.above_of-above-in-loop-above.ensures) (level-less n (is_above N) (place_above N) (λ p. length (onward N (end_at N p))) (climb-places N c.requires.0) h.above (omega arith, h.invariant.high))
@@ -58,7 +57,7 @@ loop-above-smaller c =
 pub loop-above-preserved : goal.loop-above-preserved
 loop-above-preserved c =
     let g = c.args in
-    let N = network_in g.net.now in
+    let N = g.net.now in
     let n = length N.places in
     let h = c.loop-above in
     subst (λ a. Climbed n (is_above N) g.place a g.relations.now (set (set h.relations (h.above * 65 + g.place) 1) (g.place * 65 + h.above) 2)) (sym c.above_of-above-in-loop-above.ensures) (climb-next n (is_above N) (place_above N) (λ p. length (onward N (end_at N p))) (climb-places N c.requires.0) c.requires.0.read.place_count g.place c.requires.4 h.above g.relations.now h.relations (omega arith) h.invariant)
@@ -66,7 +65,7 @@ loop-above-preserved c =
 pub returns : goal.returns
 returns c =
     let g = c.args in
-    let N = network_in g.net.now in
+    let N = g.net.now in
     let n = length N.places in
     let h = c.loop-above in
     (climb-end n (is_above N) (place_above N) (λ p. length (onward N (end_at N p))) (climb-places N c.requires.0) c.requires.0.read.place_count g.place c.requires.4 g.relations.now h.relations (subst (λ a. Climbed n (is_above N) g.place a g.relations.now h.relations) {x = h.above} {y = 0} (omega arith) h.invariant), h.invariant.kept, h.invariant.long)

@@ -2,8 +2,6 @@ use mathlib.Core.Path.{◌∙◌}
 use native.Mathlib.Omega.{arith}
 use Rattle.theory.specs.Sizes.{read-sized}
 use Rattle.theory.specs.TextSizes.{line_f-length}
-use Rattle.buffer.specs.Buffer.{network_in}
-use Rattle.tree.proofs.Fitting.{read_fits}
 use Rattle.text.proofs.Listing.{same_text}
 use Rattle.report.proofs.Lines.{line_f-is}
 use borrow.Author.Rules.{rules}
@@ -11,13 +9,13 @@ use Rattle.report.proofs.put_fault.Goals as goal
 
 pub outage_amount-requires : goal.outage_amount-requires
 outage_amount-requires c =
-    let N = network_in c.args.net.now in
+    let N = c.args.net.now in
     let l = c.args.line in
-    (record { fits = read_fits N c.requires.ready.0.read; low = c.requires.there.0; high = c.requires.there.1 }, read-sized N c.requires.ready.0.read, c.requires.ready.1 l (search rules) (search rules))
+    (record { low = c.requires.there.0; high = c.requires.there.1 }, read-sized N c.requires.ready.0.read, c.requires.ready.1 l (search rules) (search rules))
 
 pub returns : goal.returns
 returns c =
-    let N = network_in c.args.net.now in
+    let N = c.args.net.now in
     let l = c.args.line in
     let t = same_text _ _ _ _ _ (line_f-is N l _ c.number-amount.result (c.requires.ready.1 l (search rules) (search rules)) (c.number-amount.ensures ∙ c.outage_amount.ensures)) c.put_line.ensures.written in
     record { written = t; short = omega (arith, t.0, line_f-length N c.requires.ready.0 l (omega (arith, (read-sized N c.requires.ready.0.read).line_count))) }

@@ -3,7 +3,6 @@ use Prim.Native.Nat.{◌-◌}
 use native.Mathlib.Omega.{arith}
 use lib.ListN.{length-take, length-drop}
 use Rattle.theory.specs.Sizes.{read-sized}
-use Rattle.buffer.specs.Buffer.{network_in}
 use Rattle.text.proofs.Listing.{listed-none, listed_more, listed-all, lines-length, line-is}
 use Rattle.report.proofs.put_faults.Goals as goal
 
@@ -16,12 +15,12 @@ put_fault-at-requires c =
 
 pub loop-i-preserved : goal.loop-i-preserved
 loop-i-preserved c =
-    let N = network_in c.args.net.now in
+    let N = c.args.net.now in
     let g = c.loop-i in
     (g.invariant.0, omega arith, omega arith, listed_more _ _ _ _ _ _ _ _ _ (omega (arith, lines-length N)) (line-is N g.i (omega arith)) (omega (arith, (read-sized N c.requires.ready.0.read).line_count)) g.invariant.3 c.put_fault-at.ensures.written)
 
 pub returns : goal.returns
 returns c =
-    let N = network_in c.args.net.now in
+    let N = c.args.net.now in
     let g = c.loop-i in
     record { written = listed-all _ _ _ _ _ g.i (omega (arith, lines-length N)) g.invariant.3; short = omega (arith, (read-sized N c.requires.ready.0.read).line_count) }

@@ -1,20 +1,14 @@
-use Prim.Native.Nat.{ℕ}
-use mathlib.Core.List.{List, ◌++◌}
+use Rattle.std.specs.Prelude.{ℕ, List, ◌++◌}
 use Rattle.model.specs.Text.{line_a, report_text}
 use Rattle.model.specs.Commands.{plan_text}
-use Rattle.buffer.specs.Buffer.{network_in}
 use Rattle.text.proofs.Listing.{same_text, behind}
 use Rattle.report.specs.Parts.{fault_lines}
 use Rattle.report.proofs.Whole.{report-is}
-use borrow.Author.Rules.{rules}
 use Rattle.report.proofs.write_report.Goals as goal
-
-pub write_plan-requires : goal.write_plan-requires
-write_plan-requires c = let a = c.requires.0 in (record { accepted = a.accepted; few = a.few; found = a.found }, search rules)
 
 pub returns : goal.returns
 returns c =
-    let N = network_in c.args.net.now in
+    let N = c.args.net.now in
     let b = c.args.buf.now in
     let A : List ℕ = line_a N in
     let F : List ℕ = fault_lines N in

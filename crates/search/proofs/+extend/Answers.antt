@@ -1,7 +1,6 @@
 use Prim.Native.Nat.{ℕ, ◌+◌, ◌-◌}
 use mathlib.Core.Bool.{true}
 use native.Mathlib.Omega.{arith}
-use Rattle.buffer.specs.Buffer.{network_in}
 use Rattle.search.specs.Walking.{found_in}
 use Rattle.search.proofs.Extending.{few, saves, saves-next, places-few, Going, going-first, low, stopped-same, left-few, left-row, stopped-undone, seeking, going-sought, trying, some, room, set⁺-long, set⁺-is, on-barren, entering, extending, on-extended}
 use Rattle.search.proofs.+extend.Goals as goal
@@ -9,7 +8,7 @@ use Rattle.search.proofs.+extend.Goals.{then-goes_deeper, else-goes_deeper}
 
 -- the set with the place is visited, and extended or not
 on : (t : ℕ) (c : goal.Joined-goes_deeper t)
-    → Going (network_in c.args.net.now) c.args.lists.now c.args.outlook.now c.args.rows.now c.args.set.now c.args.current c.args.from c.args.left (found_in (network_in c.args.net.now) c.args.progress c.args.best.now) (c.loop-outlook.place + 1) c.if-goes_deeper.found c.if-goes_deeper.pending c.if-goes_deeper.outlook c.if-goes_deeper.rows c.if-goes_deeper.set c.if-goes_deeper.best
+    → Going c.args.net.now c.args.lists.now c.args.outlook.now c.args.rows.now c.args.set.now c.args.current c.args.from c.args.left (found_in c.args.net.now c.args.progress c.args.best.now) (c.loop-outlook.place + 1) c.if-goes_deeper.found c.if-goes_deeper.pending c.if-goes_deeper.outlook c.if-goes_deeper.rows c.if-goes_deeper.set c.if-goes_deeper.best
 on t c =
     let x = c.requires.0 in
     let g = c.loop-outlook.invariant.0 in

@@ -2,15 +2,14 @@ use Prim.Native.Nat.{◌+◌, ◌-◌, ◌*◌, ◌≤◌}
 use mathlib.Core.Path.{◌≡◌}
 use lib.ListN.{length}
 use Rattle.model.specs.Paths.{line_numbers}
-use Rattle.buffer.specs.Buffer.{network_in}
 use Rattle.text.proofs.Listing.{Listed}
 use Rattle.segments.specs.Entries.{entries_of}
 use Rattle.segments.proofs.put_lines.Given as goal
 
 abbrev pub invariant-loop-line : goal.invariant-loop-line
 invariant-loop-line v =
-    (v.line-end ≡ length (network_in v.net).lines + 1) × (1 ≤ v.line) × (v.line ≤ v.line-end) × (v.at ≤ 10 * (v.line - 1))
-    × Listed (λ l. entries_of (network_in v.net) l) (line_numbers (network_in v.net)) v.initial.table v.table v.at (v.line - 1)
+    (v.line-end ≡ length v.net.lines + 1) × (1 ≤ v.line) × (v.line ≤ v.line-end) × (v.at ≤ 10 * (v.line - 1))
+    × Listed (λ l. entries_of v.net l) (line_numbers v.net) v.initial.table v.table v.at (v.line - 1)
 
 abbrev pub decreases-loop-line : goal.decreases-loop-line
 decreases-loop-line l = l.line-end - l.line

@@ -1,8 +1,6 @@
 use Prim.Native.Nat.{◌-◌}
 use native.Mathlib.Omega.{arith}
 use Rattle.model.specs.Rules.{breakers_on}
-use Rattle.buffer.specs.Buffer.{network_in}
-use Rattle.tree.proofs.Fitting.{read_fits}
 use Rattle.paths.specs.Meets.{far_route}
 use Rattle.series.proofs.InSeries.{far_within, none_above, upto-more}
 use Rattle.series.proofs.most_in_series.Goals as goal
@@ -13,12 +11,12 @@ loop-line-init c = (omega arith, omega arith, omega arith, omega arith, λ l i h
 pub count_beyond-requires : goal.count_beyond-requires
 count_beyond-requires c =
     let h = c.loop-line in
-    (c.requires.0, c.requires.1, c.requires.2, c.requires.3, record { fits = read_fits (network_in c.args.net.now) c.requires.0; low = h.invariant.1; high = omega arith })
+    (c.requires.0, c.requires.1, c.requires.2, c.requires.3, record { low = h.invariant.1; high = omega arith })
 
 pub loop-line-preserved : goal.loop-line-preserved
 loop-line-preserved c =
     let h = c.loop-line in
-    let N = network_in c.args.net.now in
+    let N = c.args.net.now in
     let n = c.count_beyond.ensures in (
       omega arith,
       omega arith,
@@ -30,4 +28,4 @@ loop-line-preserved c =
 pub returns : goal.returns
 returns c =
     let h = c.loop-line in
-    omega (arith, h.invariant.3, none_above (network_in c.args.net.now) c.requires.0 c.requires.1 h.most (λ l i j. h.invariant.4 l i (omega arith)))
+    omega (arith, h.invariant.3, none_above c.args.net.now c.requires.0 c.requires.1 h.most (λ l i j. h.invariant.4 l i (omega arith)))

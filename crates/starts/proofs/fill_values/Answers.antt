@@ -1,7 +1,6 @@
 use Prim.Native.Nat.{◌-◌}
 use native.Mathlib.Omega.{arith}
 use lib.ListN.{length-set}
-use Rattle.buffer.specs.Buffer.{network_in}
 use Rattle.starts.proofs.FirstOutlook.{valued-more, valued-all}
 use Rattle.starts.proofs.fill_values.Goals as goal
 
@@ -11,7 +10,7 @@ bounds-outlook-p-in-loop-p c = simp length-set (omega arith)
 pub loop-p-preserved : goal.loop-p-preserved
 loop-p-preserved c =
     let h = c.loop-p in
-    let N = network_in c.args.net.now in (
+    let N = c.args.net.now in (
       h.invariant.0,
       omega arith,
       omega arith,
@@ -20,4 +19,4 @@ loop-p-preserved c =
     )
 
 pub returns : goal.returns
-returns c = let h = c.loop-p in valued-all (network_in c.args.net.now) h.outlook h.p (omega arith) h.invariant.4
+returns c = let h = c.loop-p in valued-all c.args.net.now h.outlook h.p (omega arith) h.invariant.4

@@ -1,12 +1,11 @@
 use Prim.Native.Nat.{◌+◌, ◌-◌, ◌≤◌}
 use mathlib.Core.Path.{◌≡◌}
 use lib.ListN.{length}
-use Rattle.buffer.specs.Buffer.{network_in}
 use Rattle.starts.proofs.FirstOutlook.{Valued}
 use Rattle.starts.proofs.fill_values.Given as goal
 
 abbrev pub invariant-loop-p : goal.invariant-loop-p
-invariant-loop-p l = (l.p-end ≡ length (network_in l.net).places + 1) × (1 ≤ l.p) × (l.p ≤ l.p-end) × (length l.outlook ≡ length l.initial.outlook) × Valued (network_in l.net) l.outlook l.p
+invariant-loop-p l = (l.p-end ≡ length l.net.places + 1) × (1 ≤ l.p) × (l.p ≤ l.p-end) × (length l.outlook ≡ length l.initial.outlook) × Valued l.net l.outlook l.p
 
 abbrev pub decreases-loop-p : goal.decreases-loop-p
 decreases-loop-p l = l.p-end - l.p

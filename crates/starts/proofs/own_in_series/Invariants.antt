@@ -1,12 +1,11 @@
 use Prim.Native.Nat.{◌+◌, ◌-◌, ◌≤◌}
 use mathlib.Core.Path.{◌≡◌}
 use lib.ListN.{length}
-use Rattle.buffer.specs.Buffer.{network_in}
 use Rattle.starts.proofs.Raising.{Raised}
 use Rattle.starts.proofs.own_in_series.Given as goal
 
 abbrev pub invariant-loop-line : goal.invariant-loop-line
-invariant-loop-line l = (l.line-end ≡ length (network_in l.net).lines + 1) × (1 ≤ l.line) × (l.line ≤ l.line-end) × (length l.in_series ≡ 65) × Raised (network_in l.net) l.line-end l.in_series l.line
+invariant-loop-line l = (l.line-end ≡ length l.net.lines + 1) × (1 ≤ l.line) × (l.line ≤ l.line-end) × (length l.in_series ≡ 65) × Raised l.net l.line-end l.in_series l.line
 
 abbrev pub decreases-loop-line : goal.decreases-loop-line
 decreases-loop-line l = l.line-end - l.line

@@ -2,8 +2,6 @@ use Prim.Native.Nat.{◌+◌, ◌-◌}
 use mathlib.Core.Path.{refl, ap, ◌∙◌}
 use native.Mathlib.Omega.{arith}
 use lib.ListN.{get_or, length-set}
-use Rattle.buffer.specs.Buffer.{network_in}
-use Rattle.tree.proofs.Fitting.{read_fits}
 use Rattle.sets.specs.Sets.{load}
 use Rattle.theory.specs.Gathering.{gathered_none, gathered-more}
 use Rattle.starts.specs.Own.{stop_of}
@@ -15,7 +13,7 @@ loop-line-init c = (omega arith, omega arith, omega arith, refl, gathered_none _
 
 pub stop_of-stop-requires : goal.stop_of-stop-requires
 stop_of-stop-requires c =
-    (c.requires.0, c.requires.1, c.requires.2, record { fits = read_fits (network_in c.args.net.now) c.requires.0.read; low = c.loop-line.invariant.1; high = omega arith })
+    (c.requires.0, c.requires.1, c.requires.2, record { low = c.loop-line.invariant.1; high = omega arith })
 
 pub offset_bounds-own-stop : goal.offset_bounds-own-stop
 offset_bounds-own-stop c = omega (arith, c.stop_of-stop.ensures.few)
@@ -26,7 +24,7 @@ bounds-own-stop c = omega (arith, c.stop_of-stop.ensures.few)
 pub overflow_add-own : goal.overflow_add-own
 overflow_add-own c =
     let h = c.loop-line in
-    let N = network_in c.args.net.now in
+    let N = c.args.net.now in
     let k = ap (λ p. get_or h.own p 0) c.stop_of-stop.ensures.stop in
     omega (arith, k, c.weight.ensures, gathered-fits N c.requires.0 _ h.invariant.0 h.own h.line (omega arith) h.invariant.4)
 
@@ -39,7 +37,7 @@ bounds-own-stop-in-loop-line c = omega (arith, c.stop_of-stop.ensures.few)
 pub loop-line-preserved : goal.loop-line-preserved
 loop-line-preserved c =
     let h = c.loop-line in
-    let N = network_in c.args.net.now in (
+    let N = c.args.net.now in (
       h.invariant.0,
       omega arith,
       omega arith,
@@ -50,4 +48,4 @@ loop-line-preserved c =
 pub returns : goal.returns
 returns c =
     let h = c.loop-line in
-    gathered-all (network_in c.args.net.now) c.requires.0 _ h.invariant.0 h.own h.line (omega arith) h.invariant.4
+    gathered-all c.args.net.now c.requires.0 _ h.invariant.0 h.own h.line (omega arith) h.invariant.4

@@ -3,7 +3,6 @@ use mathlib.Core.Path.{◌≡◌, ap}
 use native.Mathlib.Omega.{arith}
 use lib.ListN.{length, get_or}
 use Rattle.graphs.specs.Sum.{on}
-use Rattle.buffer.specs.Buffer.{network_in}
 use Rattle.starts.specs.Own.{behind_in}
 use Rattle.starts.proofs.UnderPlaces.{counted, not-counted}
 use Rattle.starts.proofs.Series.{in-series-more, in-series-all}
@@ -14,7 +13,7 @@ use Rattle.starts.proofs.start_in_series.Goals.{then-behind, else-behind}
 pub loop-s-init : goal.loop-s-init
 loop-s-init c =
     let g = c.args in
-    let N = network_in g.net.now in
+    let N = g.net.now in
     let all = in-series-all N c.requires.0 g.relations.now g.own.now c.requires.1 c.requires.2 g.p c.requires.3.low c.requires.3.high in
     (omega arith, omega arith, omega arith, omega (arith, all, ap (most_from (behind_in g.relations.now g.p) (λ k. get_or g.own.now k 0) 1) {x = c.place_count-s-end.result + 1} {y = length N.places + 1} (omega arith)))
 

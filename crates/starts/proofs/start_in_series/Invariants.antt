@@ -3,7 +3,6 @@ use mathlib.Core.Path.{◌≡◌}
 use mathlib.Core.List.{[]}
 use lib.ListN.{length, get_or}
 use Rattle.savings.specs.Breakers.{end_at}
-use Rattle.buffer.specs.Buffer.{network_in}
 use Rattle.sets.specs.Sets.{in_series_at}
 use Rattle.starts.specs.Own.{behind_in}
 use Rattle.starts.proofs.Numbers.{most_from}
@@ -11,8 +10,8 @@ use Rattle.starts.proofs.start_in_series.Given as goal
 
 abbrev pub invariant-loop-s : goal.invariant-loop-s
 invariant-loop-s l =
-    (l.s-end ≡ length (network_in l.net).places + 1) × (1 ≤ l.s) × (l.s ≤ l.s-end)
-    × (max l.in_series (most_from (behind_in l.relations l.p) (λ k. get_or l.own k 0) l.s l.s-end) ≡ in_series_at (network_in l.net) [] (end_at (network_in l.net) l.p))
+    (l.s-end ≡ length l.net.places + 1) × (1 ≤ l.s) × (l.s ≤ l.s-end)
+    × (max l.in_series (most_from (behind_in l.relations l.p) (λ k. get_or l.own k 0) l.s l.s-end) ≡ in_series_at l.net [] (end_at l.net l.p))
 
 abbrev pub decreases-loop-s : goal.decreases-loop-s
 decreases-loop-s l = l.s-end - l.s

@@ -3,7 +3,6 @@ use mathlib.Core.Path.{◌≡◌, ap}
 use native.Mathlib.Omega.{arith}
 use lib.ListN.{length, get_or}
 use Rattle.savings.specs.Breakers.{end_at}
-use Rattle.buffer.specs.Buffer.{network_in}
 use Rattle.starts.specs.Own.{under_in}
 use Rattle.starts.proofs.UnderPlaces.{counted, not-counted}
 use Rattle.starts.proofs.Weighing.{share, weighed-more, weighed-all, weight-few}
@@ -14,7 +13,7 @@ use Rattle.starts.proofs.start_weight.Goals.{then-under, else-under}
 pub loop-s-init : goal.loop-s-init
 loop-s-init c =
     let g = c.args in
-    let N = network_in g.net.now in
+    let N = g.net.now in
     let add = share g.relations.now g.own.now g.upstreams.now g.p in
     let all = weighed-all N c.requires.0 g.relations.now g.own.now g.upstreams.now c.requires.1 c.requires.2 c.requires.3 g.p c.requires.5.low c.requires.5.high in
     (omega arith, omega arith, omega arith, omega (arith, all, ap (sum_from add 1) {x = c.place_count-s-end.result + 1} {y = length N.places + 1} (omega arith)))
@@ -23,7 +22,7 @@ pub overflow_add-weight : goal.overflow_add-weight
 overflow_add-weight c =
     let g = c.args in
     let h = c.loop-s in
-    let N = network_in g.net.now in
+    let N = g.net.now in
     let t = under_in g.relations.now g.upstreams.now g.p h.s in
     omega (
       arith,

@@ -3,7 +3,6 @@ use mathlib.Core.Path.{◌≡◌}
 use mathlib.Core.List.{[]}
 use lib.ListN.{length}
 use Rattle.savings.specs.Breakers.{end_at}
-use Rattle.buffer.specs.Buffer.{network_in}
 use Rattle.sets.specs.Sets.{weight_at}
 use Rattle.starts.proofs.Weighing.{share}
 use Rattle.theory.specs.Gathering.{sum_from}
@@ -11,8 +10,8 @@ use Rattle.starts.proofs.start_weight.Given as goal
 
 abbrev pub invariant-loop-s : goal.invariant-loop-s
 invariant-loop-s l =
-    (l.s-end ≡ length (network_in l.net).places + 1) × (1 ≤ l.s) × (l.s ≤ l.s-end)
-    × (l.weight + sum_from (share l.relations l.own l.upstreams l.p) l.s l.s-end ≡ weight_at (network_in l.net) [] (end_at (network_in l.net) l.p))
+    (l.s-end ≡ length l.net.places + 1) × (1 ≤ l.s) × (l.s ≤ l.s-end)
+    × (l.weight + sum_from (share l.relations l.own l.upstreams l.p) l.s l.s-end ≡ weight_at l.net [] (end_at l.net l.p))
 
 abbrev pub decreases-loop-s : goal.decreases-loop-s
 decreases-loop-s l = l.s-end - l.s

@@ -4,19 +4,18 @@ use native.Mathlib.Omega.{arith}
 use lib.ListN.{length-set}
 use borrow.Author.Tests.{not-true, not-false}
 use borrow.Author.Rules.{rules}
-use Rattle.buffer.specs.Buffer.{network_in}
 use Rattle.tree.proofs.Linking.{LinkedAbove, linked-start, linked-end, linked-open, linked-closed}
 use Rattle.tree.proofs.link_ends.Goals as goal
 use Rattle.tree.proofs.link_ends.Goals.{then-is_closed, else-is_closed}
 
 pub loop-code-init : goal.loop-code-init
-loop-code-init c = let n = network_in c.args.net.now in
+loop-code-init c = let n = c.args.net.now in
     let k = c.clear in
-    (omega arith, subst (λ m. LinkedAbove n (2 * m) k.new.chains k.new.nexts) (sym c.line_count-code.ensures) (linked-start n k.new.chains k.new.nexts k.ensures.0), k.ensures.1, k.ensures.2)
+    (omega arith, subst (λ m. LinkedAbove n (2 * m) k.new.chains k.new.nexts) (sym c.line_count-code.ensures.count) (linked-start n k.new.chains k.new.nexts k.ensures.0), k.ensures.1, k.ensures.2)
 
 pub loop-code-preserved : goal.loop-code-preserved
 loop-code-preserved c = let h = c.loop-code in
-    let n = network_in c.args.net.now in
+    let n = c.args.net.now in
     let closed = c.is_closed.ensures in
     elim c.if-is_closed.branch [
       | then-is_closed w ↦ rw (w.chains-is, w.nexts-is) (
@@ -30,7 +29,7 @@ loop-code-preserved c = let h = c.loop-code in
 
 pub returns : goal.returns
 returns c = let h = c.loop-code in
-    let n = network_in c.args.net.now in
+    let n = c.args.net.now in
     linked-end n h.chains h.nexts (subst (λ k. LinkedAbove n k h.chains h.nexts) (omega arith) h.invariant.1)
 
 pub is_closed-requires : goal.is_closed-requires

@@ -1,7 +1,6 @@
 use Prim.Native.Nat.{◌-◌}
 use native.Mathlib.Omega.{arith}
 use borrow.Author.Rules.{rules}
-use Rattle.buffer.specs.Buffer.{network_in}
 use Rattle.tree.proofs.Queueing.{queue-end}
 use Rattle.tree.proofs.outwards.Goals as goal
 
@@ -17,7 +16,7 @@ loop-i-preserved c = (omega arith, c.from_line-n.ensures.0)
 
 pub returns : goal.returns
 returns c = let h = c.loop-i in
-    queue-end (network_in c.args.net.now) c.requires.0 c.requires.1 h.i h.sides h.feeders h.order h.n h.invariant.1 (omega arith)
+    queue-end c.args.net.now c.requires.0 c.requires.1 h.i h.sides h.feeders h.order h.n h.invariant.1 (omega arith)
 
 pub from_hv-n-requires : goal.from_hv-n-requires
 from_hv-n-requires c = search rules

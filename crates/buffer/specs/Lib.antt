@@ -1,4 +1,0 @@
-pub mod Buffer
-pub mod Fits
-pub mod Fields
-pub mod Parts

@@ -1,6 +1,0 @@
-use mathlib.Core.Path.{ap}
-use lib.Dec.{eqb}
-use Rattle.grid.proofs.is_breaker.Goals as goal
-
-pub returns : goal.returns
-returns c = ap (λ n. eqb n 1) c.end_state.ensures

@@ -1,0 +1,6 @@
+use Rattle.std.proofs.Common.{ap}
+use Rattle.model.specs.Network.{Place}
+use Rattle.network.proofs.Network.place_hours.Goals as goal
+
+pub returns : goal.returns
+returns c = ap (λ (p : Place). p.hours) c.place.ensures

@@ -1,3 +1,0 @@
-pub mod Changed
-pub mod Written
-pub mod Sizes
