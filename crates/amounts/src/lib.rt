@@ -4,65 +4,68 @@
 
 ghost use Rattle.std.specs.Prelude.{◌≡◌, ◌+◌, ◌*◌, ◌^◌, ◌<◌, ltb};
 
+use std::ops::{Add, AddAssign, Mul};
+
 // A line's weight, in millionths of a failure a year.
-#[derive(Clone, Copy)]
-pub struct Weight(u64);
+#[derive(Clone, Copy, Debug, PartialEq, Eq, PartialOrd, Ord)]
+pub struct Weight(pub u64);
 
 // A number of customers.
-#[derive(Clone, Copy)]
-pub struct Customers(u64);
+#[derive(Clone, Copy, Debug, PartialEq, Eq, PartialOrd, Ord)]
+pub struct Customers(pub u64);
 
-// An outage amount, or a sum of such amounts. The field is private: nothing but `Total::ZERO`, `times` and `plus` makes one.
-#[derive(Clone, Copy)]
+// An outage amount, or a sum of such amounts. The field is private: only `Total::ZERO`, the product of a weight with customers
+// and the sum of two totals make one.
+#[derive(Clone, Copy, Debug, PartialEq, Eq, PartialOrd, Ord)]
 pub struct Total(u64);
 
-impl Weight {
-    pub fn new(number: u64) -> Weight
-        ensures { result.0 ≡ number }
-    {
-        Weight(number)
-    }
+// The outage amount of a fault: the line's weight times the customers cut off.
+impl Mul<Customers> for Weight {
+    type Output = Total;
 
-    // The weight as a number.
-    pub fn number(self) -> u64
-        ensures { result ≡ self.0 }
-    {
-        self.0
+    ghost can_mul = { λ weight customers. weight.0 * customers.0 < 2 ^ 64 };
+
+    ghost mul_gives = { λ weight customers total. total.0 ≡ weight.0 * customers.0 };
+
+    fn mul(self, customers: Customers) -> Total {
+        Total(self.0 * customers.0)
     }
 }
 
-impl Customers {
-    pub fn new(number: u64) -> Customers
-        ensures { result.0 ≡ number }
-    {
-        Customers(number)
-    }
+// The total with one more outage amount.
+impl Add for Total {
+    type Output = Total;
 
-    // The customers as a number.
-    pub fn number(self) -> u64
-        ensures { result ≡ self.0 }
-    {
-        self.0
+    ghost can_add = { λ a b. a.0 + b.0 < 2 ^ 64 };
+
+    ghost add_gives = { λ a b total. total.0 ≡ a.0 + b.0 };
+
+    fn add(self, amount: Total) -> Total {
+        Total(self.0 + amount.0)
+    }
+}
+
+impl AddAssign for Total {
+    ghost can_add_assign = { λ a b. a.0 + b.0 < 2 ^ 64 };
+
+    ghost add_assign_gives = { λ a b total. total.0 ≡ a.0 + b.0 };
+
+    fn add_assign(&mut self, amount: Total) {
+        *self = *self + amount;
+    }
+}
+
+// The total as a number.
+impl From<Total> for u64 {
+    ghost from_gives = { λ total number. number ≡ total.0 };
+
+    fn from(total: Total) -> u64 {
+        total.0
     }
 }
 
 impl Total {
     pub const ZERO: Total = Total(0);
-
-    // The total with one more outage amount.
-    pub fn plus(self, amount: Total) -> Total
-        requires { self.0 + amount.0 < 2 ^ 64 }
-        ensures { result.0 ≡ self.0 + amount.0 }
-    {
-        Total(self.0 + amount.0)
-    }
-
-    // Whether this total is smaller than another.
-    pub fn below(self, other: Total) -> bool
-        ensures { result ≡ ltb self.0 other.0 }
-    {
-        self.0 < other.0
-    }
 
     // Whether this total, with at most `more` added, can pass another.
     pub fn can_pass(self, more: u64, other: Total) -> bool
@@ -71,19 +74,4 @@ impl Total {
     {
         other.0 < self.0 + more
     }
-
-    // The total as a number.
-    pub fn number(self) -> u64
-        ensures { result ≡ self.0 }
-    {
-        self.0
-    }
-}
-
-// The outage amount of a fault: the line's weight times the customers cut off.
-pub fn times(weight: Weight, customers: Customers) -> Total
-    requires { weight.0 * customers.0 < 2 ^ 64 }
-    ensures { result.0 ≡ weight.0 * customers.0 }
-{
-    Total(weight.0 * customers.0)
 }

@@ -11,16 +11,15 @@ fn with_line(total: Total, weight: u64, customers: u64) -> Total
     requires { total.0 + weight * customers < 2 ^ 64 }
     ensures { result.0 ≡ total.0 + weight * customers }
 {
-    let amount = amounts::times(Weight::new(weight), Customers::new(customers));
-    total.plus(amount)
+    total + Weight(weight) * Customers(customers)
 }
 
 fn show(rt: &impl Print, total: Total) -> io::Result<()> {
-    println!(rt; "{}", total.number())
+    println!(rt; "{}", u64::from(total))
 }
 
 fn show_below(rt: &impl Print, a: Total, b: Total) -> io::Result<()> {
-    println!(rt; "{}", u8::from(a.below(b)))
+    println!(rt; "{}", u8::from(a < b))
 }
 
 fn show_can_pass(rt: &impl Print, a: Total, more: u64, b: Total) -> io::Result<()>

@@ -2,7 +2,7 @@
 // of a search and its members, a refusal as one number.
 #![tactic(auto)]
 
-ghost use Rattle.std.specs.Prelude.{◌≡◌, true, false, ◌⊎◌, ◌+◌, ◌*◌, ◌++◌, ◌≤◌, ◌<◌, length, take, drop, OnOk, IfErr};
+ghost use Rattle.std.specs.Prelude.{◌≡◌, true, false, ◌⊎◌, ◌+◌, ◌*◌, ◌++◌, ◌≤◌, ◌<◌, length, drop, OnOk, IfErr};
 ghost use Rattle.model.specs.Answer.{refusal_number, refusal_record};
 ghost use Rattle.model.specs.Calls.{outcome_of};
 ghost use Rattle.planning.specs.Planned.{plan_found};
@@ -29,24 +29,33 @@ pub fn is_line(net: &Network, line: u64) -> bool
 
 // The outcome of a search.
 pub fn outcome_of(plan: &Plan) -> Outcome
-    requires { (plan.now.count ≤ 16) × (length plan.now.set ≡ 16) }
     ensures { result ≡ outcome_of (plan_found plan.now) }
 {
     let finished = !plan.spent;
     Outcome {
         finished,
-        members: plan.count,
-        total: plan.total.number(),
+        members: plan.members.len(),
+        total: u64::from(plan.total),
         visits: plan.visits,
+    }
+}
+
+// Writes the numbers of places at the start of what is lent.
+fn put_places(places: &[usize], lent: &mut [u64])
+    requires { length places.now ≤ length lent.old }
+    ensures { lent.new ≡ places.now ++ drop (length places.now) lent.old }
+{
+    for (i, &place) in places.iter().enumerate() {
+        lent[i] = place as u64;
     }
 }
 
 // Writes the members of a set at the start of what is lent.
 pub fn put_members(plan: &Plan, lent: &mut [u64])
-    requires { (plan.now.count ≤ 16) × (length plan.now.set ≡ 16) × (16 ≤ length lent.old) }
-    ensures { lent.new ≡ take plan.now.count plan.now.set ++ drop plan.now.count lent.old }
+    requires { (length plan.now.members.items ≤ 16) × (16 ≤ length lent.old) }
+    ensures { lent.new ≡ plan.now.members.items ++ drop (length plan.now.members.items) lent.old }
 {
-    lists::put_numbers(&plan.set, plan.count, lent);
+    put_places(plan.members.as_slice(), lent);
 }
 
 // Refuses what is lent if it has fewer than the least number of elements.

@@ -1,7 +1,7 @@
 // Ceiling: how many sets of at most so many places there are, by which planners choose the limit of visits.
 #![tactic(auto)]
 
-ghost use Rattle.std.specs.Prelude.{◌≡◌, true, false, ◌+◌, ◌^◌, ◌≤◌, ◌<◌};
+ghost use Rattle.std.specs.Prelude.{◌≡◌, ◌+◌, ◌^◌, ◌≤◌, ◌<◌};
 ghost use Rattle.model.specs.Ceiling.{binomial, set_count};
 ghost use Rattle.model.specs.Answer.{says};
 ghost use Rattle.model.specs.Calls.{ceiling_answered};
@@ -31,28 +31,14 @@ fn set_count(table: &[u64; 1105], places: usize, additions: usize) -> u64
     sum
 }
 
-// Whether there are too many places for the table.
-fn many_places(places: u64) -> bool
-    ensures { (result ≡ true → 64 < places) × (result ≡ false → places ≤ 64) }
-{
-    64 < places
-}
-
-// Whether there are too many additions for the table.
-fn many_additions(additions: u64) -> bool
-    ensures { (result ≡ true → 16 < additions) × (result ≡ false → additions ≤ 16) }
-{
-    16 < additions
-}
-
 // How many sets of at most `additions` (0 to 16) of `places` (0 to 64) places there are.
 pub fn ceiling(places: u64, additions: u64) -> Result<u64, Refusal>
     ensures { says result ≡ ceiling_answered places additions }
 {
-    if many_places(places) {
+    if places > 64 {
         return Err(Refusal::NoSuchNumber);
     }
-    if many_additions(additions) {
+    if additions > 16 {
         return Err(Refusal::NoSuchNumber);
     }
     Ok(set_count(&table::BINOMIALS, places as usize, additions as usize))

@@ -1,21 +1,35 @@
--- The columns of the table of the bounds.
-use Prim.Native.Nat.{ℕ, zero, suc, ◌+◌, ◌*◌, ◌-◌, ◌≤◌, ◌<◌}
+-- The columns of the table of the sums, as they are written.
+use Prim.Native.Nat.{ℕ, zero, suc, ◌+◌, ◌-◌, ◌≤◌, ◌<◌}
 use mathlib.Core.Path.{◌≡◌, refl, sym, ap, ◌∙◌, subst}
+use mathlib.Core.Bool.{Bool, true, false}
 use mathlib.Core.List.{List, [], ◌∷◌}
 use mathlib.Core.Logic.{⊎_elim}
+use native.Mathlib.Decide.{ℕ_discrete}
 use native.Mathlib.Nat.{eq-or-lt_of_le}
 use native.Mathlib.Numerals.{add-one}
 use native.Mathlib.Omega.{arith}
-use lib.ListN.{length, length-set, get_or, set, take, drop, drop_of_length-le, get_or-eq_default}
-use lib.Seq.{get_or-set_same, get_or-set_other, get_or-take, drop-cons, length-take-le}
+use lib.Dec.{leb}
+use lib.ListN.{replicate, length, get_or, set, take, drop, drop_of_length-le, get_or-eq_default}
+use Rattle.std.proofs.lemmas.List.{length-drop}
+use lib.Seq.{get_or-set_same, get_or-set_other, drop-cons}
 use Rattle.model.specs.Lists.{sum}
 use Rattle.model.specs.Walk.{insert, falling, largest}
-use Rattle.walks.specs.Largest.{Falls, falling-falls}
 use Rattle.theory.specs.Sizes.{falling-most}
-use Rattle.bounds.specs.Bounds.{Small, Savings, Column, Bounds}
+use Rattle.bounds.specs.Table.{Small, IsTable, sum_at, Column, ColumnsFrom}
+
+-- a table of zeros
+zeros : (n k : ℕ) → ◌≡◌ {A = ℕ} (get_or (replicate n 0) k 0) 0
+zeros zero k = refl
+zeros (suc n) zero = refl
+zeros (suc n) (suc k) = zeros n k
+
+pub all_zero : (n m r q : ℕ) → sum_at (replicate n (replicate m 0)) r q ≡ 0
+all_zero zero m r q = refl
+all_zero (suc n) m zero q = zeros m q
+all_zero (suc n) m (suc r) q = all_zero n m r q
 
 -- one more number of a list adds itself to the sum
-sum-one-more : (xs : List ℕ) (r : ℕ) → sum (take (r + 1) xs) ≡ sum (take r xs) + get_or xs r 0
+pub sum-one-more : (xs : List ℕ) (r : ℕ) → sum (take (r + 1) xs) ≡ sum (take r xs) + get_or xs r 0
 unfolding sum
 sum-one-more xs r = rw add-one (go xs r)
   where
@@ -25,100 +39,112 @@ sum-one-more xs r = rw add-one (go xs r)
     go (y ∷ ys) zero = omega arith
     go (y ∷ ys) (suc k) = omega (arith, go ys k)
 
+-- the sum of one row more
+module _ (list : List ℕ) (r total : ℕ) (e : total ≡ sum (take r list)) where
+  pub sum-within : total + get_or list r 0 ≡ sum (take (r + 1) list)
+  sum-within = omega (arith, sum-one-more list r, e)
+
+  pub sum-beyond : length list ≤ r → total ≡ sum (take (r + 1) list)
+  sum-beyond h = omega (arith, sum-one-more list r, get_or-eq_default list 0 {n = r} h, e)
+
+-- a number of the table is written
+abbrev with_sum : List (List ℕ) → ℕ → ℕ → ℕ → List (List ℕ)
+with_sum sums r q v = set sums r (set (get_or sums r []) q v)
+
+module _ {sums : List (List ℕ)} (t : IsTable sums) (r q v : ℕ) (h : r < 17) (l : q ≤ 64) where
+  row-is : get_or (with_sum sums r q v) r [] ≡ set (get_or sums r []) q v
+  row-is = get_or-set_same sums r (set (get_or sums r []) q v) [] (omega (arith, t.rows, h))
+
+  sum-same : sum_at (with_sum sums r q v) r q ≡ v
+  sum-same = ap (λ row. get_or row q 0) row-is ∙ get_or-set_same (get_or sums r []) q v 0 (omega (arith, t.columns r h, l))
+
+  sum-row : (k p : ℕ) → (k ≡ r → ⊥) → sum_at (with_sum sums r q v) k p ≡ sum_at sums k p
+  sum-row k p n = ap (λ row. get_or row p 0) (get_or-set_other sums r k (set (get_or sums r []) q v) [] n)
+
+  sum-column : (k p : ℕ) → (p ≡ q → ⊥) → sum_at (with_sum sums r q v) k p ≡ sum_at sums k p
+  sum-column k p n = go (ℕ_discrete k r)
+    where
+      go : Dec (k ≡ r) → sum_at (with_sum sums r q v) k p ≡ sum_at sums k p
+      go (yes e) =
+          ap (λ j. sum_at (with_sum sums r q v) j p) e ∙ ap (λ row. get_or row p 0) row-is
+          ∙ get_or-set_other (get_or sums r []) q p v 0 n ∙ ap (λ j. sum_at sums j p) (sym e)
+      go (no e) = sum-row k p e
+
 -- the rows before r of column q are written
-pub record Rows (xs : List ℕ) (q r : ℕ) (old new : List ℕ) : Type 0 where
-  pub long : length new ≡ 1105
-  pub written : (k : ℕ) → k < r → get_or new (k * 65 + q) 0 ≡ sum (take k xs)
-  pub others : (k p : ℕ) → k ≤ 16 → p ≤ 64 → (p ≡ q → ⊥) → get_or new (k * 65 + p) 0 ≡ get_or old (k * 65 + p) 0
+pub record Rows (xs : List ℕ) (q r : ℕ) (old new : List (List ℕ)) : Type 0 where
+  pub written : (k : ℕ) → k < r → sum_at new k q ≡ sum (take k xs)
+  pub others : (k p : ℕ) → k ≤ 16 → p ≤ 64 → (p ≡ q → ⊥) → sum_at new k p ≡ sum_at old k p
 
-pub rows_none : (xs : List ℕ) (q : ℕ) (old : List ℕ) → length old ≡ 1105 → Rows xs q 0 old old
-rows_none xs q old h = record { long = h; written = λ k l. absurd (omega arith); others = λ k p a b n. refl }
+pub rows_none : (xs : List ℕ) (q : ℕ) (old : List (List ℕ)) → Rows xs q 0 old old
+rows_none xs q old = record { written = λ k l. absurd (omega arith); others = λ k p a b n. refl }
 
-pub rows_more : (xs : List ℕ) (q r : ℕ) (old new : List ℕ) → q ≤ 64 → r < 17 → Rows xs q r old new → Rows xs q (r + 1) old (set new (r * 65 + q) (sum (take r xs)))
-rows_more xs q r old new h l w = record {
-  long = length-set new (r * 65 + q) (sum (take r xs)) ∙ w.long;
+pub rows_more : (xs : List ℕ) (q r : ℕ) (old new : List (List ℕ)) → IsTable new → q ≤ 64 → r < 17 → Rows xs q r old new → (v : ℕ) → v ≡ sum (take r xs) → Rows xs q (r + 1) old (with_sum new r q v)
+rows_more xs q r old new t h l w v e = record {
   written = λ k m. ⊎_elim
-      (λ e. ap (λ j. get_or (set new (r * 65 + q) (sum (take r xs))) (j * 65 + q) 0) e ∙ get_or-set_same new (r * 65 + q) (sum (take r xs)) 0 (omega (arith, w.long)) ∙ ap (λ j. sum (take j xs)) (sym e))
-      (λ n. get_or-set_other new (r * 65 + q) (k * 65 + q) (sum (take r xs)) 0 (λ e. omega arith) ∙ w.written k n)
+      (λ o. ap (λ j. sum_at (with_sum new r q v) j q) o ∙ sum-same t r q v l h ∙ e ∙ ap (λ j. sum (take j xs)) (sym o))
+      (λ n. sum-row t r q v l h k q (λ o. omega arith) ∙ w.written k n)
       (eq-or-lt_of_le {n = k} {m = r} (omega arith));
-  others = λ k p a b n. get_or-set_other new (r * 65 + q) (k * 65 + p) (sum (take r xs)) 0 (λ e. n (omega arith)) ∙ w.others k p a b n;
+  others = λ k p a b n. sum-column t r q v l h k p n ∙ w.others k p a b n;
 }
 
--- the sum of one row more
-module _ (list : List ℕ) (size r total : ℕ) (e : total ≡ sum (take r (take size list))) where
-  pub sum-within : r < size → total + get_or list r 0 ≡ sum (take (r + 1) (take size list))
-  sum-within h = omega (arith, sum-one-more (take size list) r, get_or-take size list r 0 h)
+insert-length : (x : ℕ) (ys : List ℕ) → length (insert x ys) ≡ suc (length ys)
+unfolding insert
+insert-length x [] = refl
+insert-length x (y ∷ ys) = go (leb y x) refl (insert-length x ys)
+  where
+    go : (t : Bool) → leb y x ≡ t → length (insert x ys) ≡ suc (length ys) → length (insert x (y ∷ ys)) ≡ suc (suc (length ys))
+    go true e ih = rw (e, insert) refl
+    go false e ih = rw (e, insert) (ap suc ih)
 
-  pub sum-beyond : size ≤ r → size ≤ length list → total ≡ sum (take (r + 1) (take size list))
-  sum-beyond h l = omega (arith, sum-one-more (take size list) r, get_or-eq_default (take size list) 0 {n = r} (omega (arith, length-take-le size list l)))
+falling-length : (xs : List ℕ) → length (falling xs) ≡ length xs
+unfolding falling
+falling-length [] = refl
+falling-length (x ∷ xs) = insert-length x (falling xs) ∙ ap suc (falling-length xs)
 
 -- one column more of the savings' table
-columns-more : (xs ys : List ℕ) (q : ℕ) (old new : List ℕ) → length xs ≤ 64 → ys ≡ falling (drop q xs) → Column ys q old new → Bounds xs (q + 1) old → Bounds xs q new
+columns-more : (xs ys : List ℕ) (q : ℕ) (old new : List (List ℕ)) → length xs ≤ 64 → ys ≡ falling (drop q xs) → Column ys q old new → ((r p : ℕ) → r ≤ 16 → q < p → p ≤ length xs → sum_at old r p ≡ largest r (drop p xs)) → ColumnsFrom xs q new
 unfolding largest
 columns-more xs ys q old new h e c b r p k l m =
     ⊎_elim
-    (λ o. ap (λ j. get_or new (r * 65 + j) 0) (sym o) ∙ c.written r k ∙ ap (λ zs. sum (take r zs)) e ∙ ap (λ j. sum (take r (falling (drop j xs)))) o)
-    (λ o. c.others r p k (omega arith) (λ z. omega arith) ∙ b r p k (omega arith) m)
+    (λ o. ap (λ j. sum_at new r j) (sym o) ∙ c.written r k ∙ ap (λ zs. sum (take r zs)) e ∙ ap (λ j. sum (take r (falling (drop j xs)))) o)
+    (λ o. c.others r p k (omega arith) (λ z. omega arith) ∙ b r p k o m)
     (eq-or-lt_of_le {n = q} {m = p} l)
+
+-- the columns from q on are written, and the savings behind the first q stand in falling order
+pub record Built (savings : List ℕ) (q : ℕ) (sums : List (List ℕ)) (list : List ℕ) : Type 0 where
+  pub ordered : list ≡ falling (drop q savings)
+  pub columns : ColumnsFrom savings q sums
 
 small-drop : (q : ℕ) (xs : List ℕ) → Small xs → Small (drop q xs)
 small-drop zero xs s = s
 small-drop (suc q) [] s = tt
 small-drop (suc q) (x ∷ xs) s = small-drop q xs s.1
 
--- the columns from q on are written, and the savings behind the first q stand in falling order
-pub record Built (savings : List ℕ) (count q : ℕ) (bounds list : List ℕ) : Type 0 where
-  pub within : q ≤ count
-  pub long : length bounds ≡ 1105
-  pub room : length list ≡ 64
-  pub ordered : take (count - q) list ≡ falling (drop q (take count savings))
-  pub columns : Bounds (take count savings) q bounds
+module _ (savings : List ℕ) where
+  -- a list that is the savings behind the first q in falling order
+  module _ (q : ℕ) {list : List ℕ} (e : list ≡ falling (drop q savings)) where
+    pub ordered-long : length list ≡ length savings - q
+    ordered-long = ap length e ∙ falling-length (drop q savings) ∙ length-drop q savings
 
-module _ (savings : List ℕ) (count : ℕ) (s : Savings savings count) where
-  abbrev xs : List ℕ
-  xs = take count savings
+    pub ordered-small : Small savings → Small list
+    ordered-small s = subst Small (sym e) (falling-most 7864320000000000 (drop q savings) (small-drop q savings s))
 
-  many : length xs ≡ count
-  many = length-take-le count savings (omega (arith, s.long, s.few))
-
-  -- numbers that are the savings in falling order
-  module _ (n q : ℕ) (list : List ℕ) (e : take n list ≡ falling (drop q xs)) where
-    pub ordered-falls : Falls (take n list)
-    ordered-falls = subst Falls (sym e) (falling-falls (drop q xs))
-
-    pub ordered-small : Small (take n list)
-    ordered-small = subst Small (sym e) (falling-most 7864320000000000 (drop q xs) (small-drop q xs s.small))
-
-  pub built-none : (old new list : List ℕ) → length list ≡ 64 → Column (take 0 list) count old new → Built savings count count new list
+  -- one more of them
+  pub ordered-more : (q : ℕ) (list : List ℕ) → list ≡ falling (drop q savings) → (p : ℕ) (more : List ℕ) → p < length savings → q ≡ p + 1 → more ≡ insert (get_or savings p 0) list → more ≡ falling (drop p savings)
   unfolding falling
-  built-none old new list r c =
-      let e : [] ≡ falling (drop count xs) = ap falling (sym (drop_of_length-le xs {i = count} (omega (arith, many)))) in
-      record {
-        within = omega arith;
-        long = c.long;
-        room = r;
-        ordered = ap (λ k. take k list) {x = count - count} {y = 0} (omega arith) ∙ e;
-        columns = columns-more xs [] count old new (omega (arith, many, s.few)) e c (λ i p a b m. absurd (omega (arith, many)));
-      }
+  ordered-more q list o p more l e m =
+      m ∙ ap (insert (get_or savings p 0)) (o ∙ ap (λ k. falling (drop k savings)) {x = q} {y = suc p} (omega (arith, e)))
+      ∙ ap falling (sym (drop-cons savings p 0 l))
 
-  module _ (q : ℕ) (n : q ≡ 0 → ⊥) (old list : List ℕ) (x : Built savings count q old list) where
-    -- before the insertion, and after it
-    pub ordered-before : take (count - (q - 1) - 1) list ≡ falling (drop q xs)
-    ordered-before = ap (λ k. take k list) {x = count - (q - 1) - 1} {y = count - q} (omega (arith, x.within)) ∙ x.ordered
-
-    pub ordered-after : (more : List ℕ) → take (count - (q - 1) - 1 + 1) more ≡ insert (get_or savings (q - 1) 0) (take (count - (q - 1) - 1) list) → take (count - (q - 1)) more ≡ falling (drop (q - 1) xs)
+  module _ (few : length savings ≤ 64) where
+    pub built-none : (q : ℕ) (old new : List (List ℕ)) → q ≡ length savings → Column [] q old new → Built savings q new []
     unfolding falling
-    ordered-after more e =
-        ap (λ k. take k more) {x = count - (q - 1)} {y = count - (q - 1) - 1 + 1} (omega (arith, x.within)) ∙ e
-        ∙ (λ i. insert (sym (get_or-take count savings (q - 1) 0 (omega (arith, x.within))) i) (ordered-before i))
-        ∙ ap (λ k. insert (get_or xs (q - 1) 0) (falling (drop k xs))) {x = q} {y = suc (q - 1)} (omega arith)
-        ∙ ap falling (sym (drop-cons xs (q - 1) 0 (omega (arith, many, x.within))))
+    built-none q old new e c =
+        let o : [] ≡ falling (drop q savings) = ap falling (sym (drop_of_length-le savings {i = q} (omega (arith, e)))) in
+        record { ordered = o; columns = columns-more savings [] q old new few o c (λ r p a b m. absurd (omega (arith, e))) }
 
-    pub built-more : (new more : List ℕ) → length more ≡ 64 → take (count - (q - 1)) more ≡ falling (drop (q - 1) xs) → Column (take (count - (q - 1)) more) (q - 1) old new → Built savings count (q - 1) new more
-    built-more new more r e c = record {
-      within = omega (arith, x.within);
-      long = c.long;
-      room = r;
-      ordered = e;
-      columns = columns-more xs (take (count - (q - 1)) more) (q - 1) old new (omega (arith, many, s.few)) e c (λ i p a b m. x.columns i p a (omega arith) m);
-    }
+    pub built-more : (q : ℕ) (old : List (List ℕ)) (list : List ℕ) → Built savings q old list → (p : ℕ) (new : List (List ℕ)) (more : List ℕ)
+        → p < length savings → q ≡ p + 1 → more ≡ insert (get_or savings p 0) list → Column more p old new → Built savings p new more
+    built-more q old list x p new more l e m c =
+        let o = ordered-more q list x.ordered p more l e m in
+        record { ordered = o; columns = columns-more savings more p old new few o c (λ r k a b n. x.columns r k a (omega (arith, e)) n) }

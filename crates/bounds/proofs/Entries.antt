@@ -1,15 +1,16 @@
--- An entry of the table of the bounds.
-use Prim.Native.Nat.{ℕ, zero, suc, ◌+◌, ◌*◌, ◌-◌, ◌≤◌}
+-- A number of the table of the bounds of a file.
+use Prim.Native.Nat.{ℕ, zero, suc, ◌+◌, ◌-◌, ◌≤◌}
 use mathlib.Core.Path.{◌≡◌, ap, ◌∙◌}
-use mathlib.Core.List.{List, map}
+use mathlib.Core.List.{map}
 use native.Mathlib.Omega.{arith}
-use lib.ListN.{length, length-map, get_or, drop}
+use lib.ListN.{length, length-map, drop}
 use Rattle.model.specs.Lists.{numbers}
 use Rattle.model.specs.Network.{Network}
 use Rattle.model.specs.Sets.{place_numbers, saving}
 use Rattle.model.specs.Walk.{largest}
 use Rattle.theory.specs.Sizes.{numbers-length}
-use Rattle.bounds.specs.Bounds.{HoldsBounds, most_saved}
+use Rattle.bounds.specs.Bounds.{HoldsBounds, sum_in, most_saved}
+use Rattle.bounds.specs.declared.Bounds.{Bounds}
 
 drop-numbers : (f : ℕ → ℕ) (k from count : ℕ) → drop k (map f (numbers from count)) ≡ map f (numbers (from + k) (count - k))
 unfolding numbers
@@ -31,11 +32,10 @@ drop-numbers f (suc k) from (suc count) = drop-numbers f k (from + 1) count ∙ 
 
 module _ (N : Network) where
   -- the bound of the table
-  pub bound-is : (bounds : List ℕ) → HoldsBounds N bounds → (r place : ℕ) → r ≤ 16 → 1 ≤ place → place ≤ length N.places → get_or bounds (r * 65 + place - 1) 0 ≡ most_saved N r place
+  pub bound-is : (bounds : Bounds) → HoldsBounds N bounds → (r place : ℕ) → r ≤ 16 → 1 ≤ place → place ≤ length N.places → sum_in bounds r (place - 1) ≡ most_saved N r place
   unfolding place_numbers
   bound-is bounds t r place f l h =
-      ap (λ n. get_or bounds n 0) {x = r * 65 + place - 1} {y = r * 65 + (place - 1)} (omega arith)
-      ∙ t r (place - 1) f (omega arith) (omega (arith, length-map (numbers 1 (length N.places)) (λ p. saving N p), numbers-length 1 (length N.places)))
+      t r (place - 1) f (omega arith) (omega (arith, length-map (numbers 1 (length N.places)) (λ p. saving N p), numbers-length 1 (length N.places)))
       ∙ ap (largest r) (drop-numbers (λ p. saving N p) (place - 1) 1 (length N.places))
       ∙ (λ i. largest r (map (λ p. saving N p) (numbers (m i) (n i))))
     where

@@ -1,64 +1,80 @@
-// The table of the bounds: of the places from each one on, the sums of the largest savings.
+// The bounds of a search: of the places from each one on, the sums of the largest savings.
 #![tactic(auto)]
 
-ghost use Rattle.std.specs.Prelude.{◌≡◌, ◌+◌, ◌≤◌, ◌<◌, length, take};
+ghost use Rattle.std.specs.Prelude.{ℕ, ◌≡◌, ◌-◌, ◌≤◌, ◌<◌, length};
 ghost use Rattle.model.specs.Walk.{insert};
-ghost use Rattle.walks.specs.Largest.{Falls};
-ghost use Rattle.bounds.specs.Bounds.{Small, Savings, Column, Bounds, most_saved, HoldsBounds};
+ghost use Rattle.bounds.specs.Table.{Small, IsTable, Column};
 
-use network::Network;
+use arrayvec::ArrayVec;
 
-// Inserts a number into a list in falling order, the first `size` numbers of an array.
-fn insert_falling(list: &mut [u64; 64], size: usize, number: u64)
-    requires { (length list.old ≡ 64) × (size < 64) × Falls (take size list.old) }
-    ensures long { length list.new ≡ 64 }
-    ensures inserted { take (size + 1) list.new ≡ insert number (take size list.old) }
+// For each number of places that a set may still get, and each number of places that are passed over, the sum of the largest
+// savings of the places behind those.
+#[derive(Drop)]
+pub struct Bounds {
+    sums: [[u64; 65]; 17],
+    ghost table: { IsTable sums },
+}
+
+// Inserts a saving into savings in falling order.
+fn insert_falling(list: &mut ArrayVec<u64, 64>, saving: u64)
+    requires { length list.old.items < 64 }
+    ensures { list.new.items ≡ insert saving list.old.items }
 {
-    let mut next = number;
-    for i in 0..size {
-        let held = list[i];
-        if held <= next {
-            list[i] = next;
-            next = held;
+    let at = list
+        .iter()
+        .position(|held| *held <= saving)
+        .unwrap_or(list.len());
+    list.insert(at, saving);
+}
+
+impl Bounds {
+    ghost use Rattle.model.specs.Network.{Network};
+    ghost use Rattle.bounds.specs.Bounds.{HoldsSums, HoldsBounds, sum_in, most_saved};
+
+    // Room for the bounds, with 0 for each sum.
+    pub fn new() -> Bounds
+        ensures { (left passed : ℕ) → sum_in result left passed ≡ 0 }
+    {
+        Bounds {
+            sums: [[0; 65]; 17],
         }
     }
-    list[size] = next;
-}
 
-// Writes the sums of the first 0 to 16 numbers of a list, all of them if there are fewer, into column `q` of the table.
-fn write_sums(list: &[u64; 64], size: usize, q: usize, bounds: &mut [u64; 1105])
-    requires { (length bounds.old ≡ 1105) × (length list.now ≡ 64) × (size ≤ 64) × (q ≤ 64) × Small (take size list.now) }
-    ensures { Column (take size list.now) q bounds.old bounds.new }
-{
-    let mut sum: u64 = 0;
-    for r in 0..17 {
-        bounds[r * 65 + q] = sum;
-        if r < size {
-            sum += list[r];
+    // Writes the sums of the first 0 to 16 of savings in falling order, all of them if there are fewer, where so many places are
+    // passed over.
+    fn write_sums(&mut self, passed: usize, list: &[u64])
+        requires { (passed ≤ 64) × (length list.now ≤ 64) × Small list.now }
+        ensures { Column list.now passed self.old.sums self.new.sums }
+    {
+        let mut sum = 0;
+        for left in 0..17 {
+            self.sums[left][passed] = sum;
+            if left < list.len() {
+                sum += list[left];
+            }
         }
     }
-}
 
-// The table of the bounds: in row `r`, column `q`, the sum of the `r` largest of the savings behind the first `q`.
-pub fn fill_bounds(savings: &[u64; 64], count: usize, bounds: &mut [u64; 1105])
-    requires { (length bounds.old ≡ 1105) × Savings savings.now count }
-    ensures { (length bounds.new ≡ 1105) × Bounds (take count savings.now) 0 bounds.new }
-{
-    let mut list = [0u64; 64];
-    let mut q = count;
-    write_sums(&list, 0, q, bounds);
-    while q != 0 {
-        q -= 1;
-        insert_falling(&mut list, count - q - 1, savings[q]);
-        write_sums(&list, count - q, q, bounds);
+    // The bounds of the places with these savings.
+    pub fn fill(&mut self, savings: &[u64])
+        requires { (length savings.now ≤ 64) × Small savings.now }
+        ensures { HoldsSums savings.now self.new }
+    {
+        let mut list = ArrayVec::new();
+        self.write_sums(savings.len(), &list);
+        for passed in (0..savings.len()).rev() {
+            insert_falling(&mut list, savings[passed]);
+            self.write_sums(passed, &list);
+        }
     }
-}
 
-// The sum of the `left` largest savings of the places from `from` on.
-pub fn most_saved(net: &Network, bounds: &[u64; 1105], left: usize, from: usize) -> u64
-    requires { HoldsBounds net.now bounds.now × (length net.now.places ≤ 64)
-        × (1 ≤ left) × (left ≤ 16) × (1 ≤ from) × (from ≤ length net.now.places) }
-    ensures { result ≡ most_saved net.now left from }
-{
-    bounds[left * 65 + from - 1]
+    // The sum of the `left` largest savings of the places from `from` on.
+    pub fn most_saved(&self, left: usize, from: usize) -> u64
+        requires { (left ≤ 16) × (1 ≤ from) × (from ≤ 65) }
+        ensures read { result ≡ sum_in self.now left (from - 1) }
+        ensures most { (N : Network) → HoldsBounds N self.now → from ≤ length N.places
+            → result ≡ most_saved N left from }
+    {
+        self.sums[left][from - 1]
+    }
 }

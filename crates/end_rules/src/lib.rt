@@ -7,16 +7,21 @@ ghost use Rattle.model.specs.Paths.{station_at, line_numbers};
 ghost use Rattle.model.specs.Rules.{both_open, plain_at_hv, unprotected};
 ghost use Rattle.theory.specs.Reading.{Read};
 ghost use Rattle.end_rules.specs.First.{found};
-ghost use Rattle.network.specs.There.{StationThere, LineThere, EndThere, end_in};
+ghost use Rattle.network.specs.There.{StationThere, LineThere};
 
-use network::Network;
+use network::{End, Network, Side};
 
 // Whether both ends of a line are open.
 fn both_open(net: &Network, line: usize) -> bool
     requires { LineThere net.now line }
     ensures { result ≡ both_open net.now line }
 {
-    net.is_open(line, 1) && net.is_open(line, 2)
+    let one = End {
+        line,
+        side: Side::One,
+    };
+    let two = one.other();
+    net.is_open(one) && net.is_open(two)
 }
 
 // Rule 4: the first line with both ends open.
@@ -27,23 +32,23 @@ pub fn open_line(net: &Network) -> Option<usize>
     (1..net.line_count() + 1).find(|line| both_open(net, *line))
 }
 
-// The station that an end, 1 or 2, of a line is at.
-pub fn station_of(net: &Network, line: usize, side: usize) -> usize
+// The station that an end is at.
+pub fn station_of(net: &Network, end: End) -> usize
     requires read { Read net.now }
-    requires end_there { EndThere net.now line side }
-    ensures value { result ≡ station_at net.now (end_in line side) }
+    requires line_there { LineThere net.now end.line }
+    ensures value { result ≡ station_at net.now end }
     ensures station_there { StationThere net.now result }
 {
-    net.end_station(line, side)
+    net.end_station(end)
 }
 
-// Whether an end, 1 or 2, of a line is a plain end at an HV station.
-fn is_plain_at_hv(net: &Network, line: usize, side: usize) -> bool
+// Whether an end is a plain end at an HV station.
+fn is_plain_at_hv(net: &Network, end: End) -> bool
     requires read { Read net.now }
-    requires end_there { EndThere net.now line side }
-    ensures { result ≡ plain_at_hv net.now (end_in line side) }
+    requires line_there { LineThere net.now end.line }
+    ensures { result ≡ plain_at_hv net.now end }
 {
-    net.is_plain(line, side) && net.is_hv(station_of(net, line, side))
+    net.is_plain(end) && net.is_hv(station_of(net, end))
 }
 
 // Whether a line has a plain end at an HV station.
@@ -52,7 +57,12 @@ fn is_unprotected(net: &Network, line: usize) -> bool
     requires line_there { LineThere net.now line }
     ensures { result ≡ unprotected net.now line }
 {
-    is_plain_at_hv(net, line, 1) || is_plain_at_hv(net, line, 2)
+    let one = End {
+        line,
+        side: Side::One,
+    };
+    let two = one.other();
+    is_plain_at_hv(net, one) || is_plain_at_hv(net, two)
 }
 
 // Rule 5: the first line with a plain end at an HV station.

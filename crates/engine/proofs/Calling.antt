@@ -1,6 +1,6 @@
 -- What Search answers and leaves in the lent buffer.
 use Rattle.std.specs.Prelude.{◌≡◌, ℕ, ◌≤◌, ◌<◌, not, List, ◌++◌, length, take, drop, Result, Ok, Err}
-use Rattle.std.proofs.Common.{refl, sym, ap, ◌∙◌, subst, arith, length-take-le}
+use Rattle.std.proofs.Common.{refl, sym, ap, ◌∙◌, subst}
 use Rattle.std.proofs.lemmas.List.{take_at}
 use Rattle.model.specs.Answer.{Answer, given, refused, refusal_number, refusal_record, ◌>>=◌, says}
 use Rattle.model.specs.Network.{Network}
@@ -51,16 +51,16 @@ module _ (file buffer : List ℕ) where
     file-refused r e = from-refused r (refused-on file (λ N. given (search N)) e ∙ searched-is)
 
     -- the members are written over the start of the buffer
-    module _ (N : Network) (a : given N ≡ accepted file) (p : Plan) (found : plan_found p ≡ search N) (few : p.count ≤ 16) (long : length p.set ≡ 16)
-        (after : List ℕ) (put : after ≡ take p.count p.set ++ drop p.count buffer) where
+    module _ (N : Network) (a : given N ≡ accepted file) (p : Plan) (found : plan_found p ≡ search N)
+        (after : List ℕ) (put : after ≡ p.members.items ++ drop (length p.members.items) buffer) where
+      abbrev S : List ℕ
+      S = p.members.items
+
       e : given (plan_found p) ≡ file_found file
       e = ap (λ f. given f) found ∙ given-on file (λ M. given (search M)) a
 
-      size : length (take p.count p.set) ≡ p.count
-      size = length-take-le p.count p.set (omega (arith, long))
-
-      kept : take (length (take p.count p.set)) after ≡ take p.count p.set
-      kept = ap (take (length (take p.count p.set))) put ∙ take_at (take p.count p.set) (drop p.count buffer) (length (take p.count p.set)) refl
+      kept : take (length S) after ≡ S
+      kept = ap (take (length S)) put ∙ take_at S (drop (length S) buffer) (length S) refl
 
       same : (M : Network) → accepted file ≡ given M → search M ≡ plan_found p
       same M b = sym (ap found_or (e ∙ ap (λ x. x >>= λ M. given (search M)) b))
@@ -73,8 +73,8 @@ module _ (file buffer : List ℕ) where
       unfolding search_answered search_leaves written Demand3 Answers outcome leaves
       file-answered = record {
         result_value = ap outcome (e ∙ searched-is);
-        members_after = put ∙ (λ i. take p.count p.set ++ drop (sym size i) buffer) ∙ ap leaves (e ∙ searched-is);
+        members_after = put ∙ ap leaves (e ∙ searched-is);
         demand3 = λ M b.
-            subst (λ S. Answered M (not p.spent) S p.total.0 p.visits) (sym kept)
+            subst (λ T. Answered M (not p.spent) T p.total.0 p.visits) (sym kept)
             (subst (λ (f : Found). Answered M (not f.spent) f.members f.best f.visits) (same M b) (search-answered M (accepted-is file M b)));
       }

@@ -29,7 +29,7 @@ pub fn impact(file: &[u8], line: u64) -> Result<u64, Refusal>
         return Err(Refusal::NoSuchNumber);
     }
     let impacts = loaded.impacts();
-    Ok(impacts[line as usize - 1])
+    Ok(impacts.impact(line as usize))
 }
 
 // Total: the outage total and the figure, minutes times the total.
@@ -39,7 +39,7 @@ pub fn total(file: &[u8]) -> Result<Totals, Refusal>
     let mut loaded = Loaded::new();
     loaded.load(file)?;
     let impacts = loaded.impacts();
-    let total = outage::total_of(&loaded.network, &impacts).number();
+    let total = u64::from(outage::total_of(&loaded.network, &impacts));
     let figure = outage::figure_of(&loaded.network, total);
     Ok(Totals { total, figure })
 }
@@ -65,10 +65,10 @@ fn report_network(loaded: &Loaded, text: &mut [u8]) -> usize
         × (text.new ≡ report_text loaded.now.network
         ++ drop (length (report_text loaded.now.network)) text.old) }
 {
-    let sums = loaded.customers();
+    let behind = loaded.customers();
     let impacts = loaded.impacts();
     let total = outage::total_of(&loaded.network, &impacts);
-    let plan = planning::best_plan(loaded, &sums);
+    let plan = planning::best_plan(loaded, &behind);
     report::write_report(&loaded.network, &impacts, total, &plan, text)
 }
 
@@ -90,8 +90,8 @@ fn table_network(loaded: &Loaded, table: &mut [u64]) -> usize
         × (table.new ≡ segment_table loaded.now.network
         ++ drop (length (segment_table loaded.now.network)) table.old) }
 {
-    let sums = loaded.customers();
-    segments::write_table(&loaded.network, &loaded.trips, &sums, table)
+    let behind = loaded.customers();
+    segments::write_table(&loaded.network, &loaded.paths, &behind, table)
 }
 
 // Segments: the lines grouped by the breaker that trips for them, five numbers a breaker, at the start of `table`.

@@ -30,7 +30,7 @@ impl Values for u64 {
     ghost values = { one_value };
 
     fn put(self, answer: &mut [u64; 8]) {
-        lists::put_numbers(&[self], 1, answer);
+        lists::put_numbers(&[self], answer);
     }
 }
 
@@ -38,7 +38,7 @@ impl Values for usize {
     ghost values = { one_value };
 
     fn put(self, answer: &mut [u64; 8]) {
-        lists::put_numbers(&[self as u64], 1, answer);
+        lists::put_numbers(&[self as u64], answer);
     }
 }
 
@@ -46,7 +46,7 @@ impl Values for Totals {
     ghost values = { total_values };
 
     fn put(self, answer: &mut [u64; 8]) {
-        lists::put_numbers(&[self.total, self.figure], 2, answer);
+        lists::put_numbers(&[self.total, self.figure], answer);
     }
 }
 
@@ -55,11 +55,8 @@ impl Values for Outcome {
 
     fn put(self, answer: &mut [u64; 8]) {
         let finished = u64::from(self.finished);
-        lists::put_numbers(
-            &[finished, self.members as u64, self.total, self.visits],
-            4,
-            answer,
-        );
+        let values = [finished, self.members as u64, self.total, self.visits];
+        lists::put_numbers(&values, answer);
     }
 }
 

@@ -1,14 +1,12 @@
 // Lists of numbers: one written over the start of another.
 #![tactic(auto)]
 
-ghost use Rattle.std.specs.Prelude.{◌≡◌, ◌++◌, ◌≤◌, length, take, drop};
+ghost use Rattle.std.specs.Prelude.{◌≡◌, ◌++◌, ◌≤◌, length, drop};
 
-// Writes the first `count` numbers of a list at the start of what is lent.
-pub fn put_numbers(list: &[u64], count: usize, lent: &mut [u64])
-    requires { (count ≤ length list.now) × (count ≤ length lent.old) }
-    ensures { lent.new ≡ take count list.now ++ drop count lent.old }
+// Writes a list at the start of what is lent.
+pub fn put_numbers(list: &[u64], lent: &mut [u64])
+    requires { length list.now ≤ length lent.old }
+    ensures { lent.new ≡ list.now ++ drop (length list.now) lent.old }
 {
-    for i in 0..count {
-        lent[i] = list[i];
-    }
+    lent[..list.len()].copy_from_slice(list);
 }

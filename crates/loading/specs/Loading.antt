@@ -1,5 +1,5 @@
 -- What loading a file answers: the rules 4 to 8 in turn, and the network of an accepted file in the buffer.
-use Rattle.std.specs.Prelude.{ℕ, ◌≡◌, refl, not, List, Result, Ok, Err}
+use Rattle.std.specs.Prelude.{◌≡◌, refl, not, Result, Ok, Err}
 use Rattle.model.specs.Answer.{Answer, given, refused, refusal_number, refusal_record, refuse_open_line, refuse_plain_at_hv, refuse_return, refuse_joined, refuse_unsupplied, refuse_series}
 use Rattle.model.specs.Network.{Network}
 use Rattle.model.specs.Paths.{station_numbers, line_numbers}
@@ -7,9 +7,8 @@ use Rattle.model.specs.Rules.{both_open, unprotected, some_path_returns, some_jo
 use Rattle.model.specs.declared.Refusal.{Refusal}
 use Rattle.theory.specs.Best.{Accepted}
 use Rattle.loading.specs.declared.Loaded.{Loaded}
-use Rattle.tree.specs.Linked.{Linked}
-use Rattle.tree.specs.Outwards.{Outwards}
-use Rattle.paths.specs.Held.{HoldsTrips, HoldsCounts}
+use Rattle.tree.specs.Held.{HoldsTree}
+use Rattle.paths.specs.Held.{HoldsPaths}
 
 -- the rules 4 to 8 in turn, before `next`
 unfoldable pub forest : Network → Answer Network → Answer Network
@@ -37,14 +36,9 @@ network_says (Ok u) l = given l.network
 network_says (Err r) l = refused (refusal_number r) (refusal_record r)
 
 -- what is prepared of an accepted network
-pub record Prepared (N : Network) (chains nexts sides feeders order trips counts : List ℕ) : Type 0 where
-  pub linked : Linked N chains nexts
-  pub outwards : Outwards N sides feeders order
-  pub tripping : HoldsTrips N trips
-  pub counted : HoldsCounts N counts
-
-abbrev pub IsPrepared : Loaded → Type 0
-IsPrepared l = Prepared l.network l.chains l.nexts l.sides l.feeders l.order l.trips l.counts
+pub record IsPrepared (l : Loaded) : Type 0 where
+  pub tree : HoldsTree l.network l.tree
+  pub paths : HoldsPaths l.network l.paths
 
 -- what is loaded is an accepted network, and what is prepared of it
 pub record IsLoaded (l : Loaded) : Type 0 where

@@ -12,19 +12,16 @@ ghost use Rattle.loading.specs.Loading.{forest, before, network_says, IsPrepared
 
 use model::{Head, Refusal};
 use network::Network;
+use outage::{Behind, Impacts};
+use paths::Paths;
+use tree::Tree;
 
-// An accepted network, and what is prepared of it: the lists of the closed ends at each station, the lines from the HV stations
-// outwards, the breaker that trips for each line and the breakers on its path.
+// An accepted network, and what is prepared of it: its tree, and what the path of each line meets.
 #[derive(Drop)]
 pub struct Loaded {
     pub network: Network,
-    pub chains: [u64; 512],
-    pub nexts: [u64; 1536],
-    pub sides: [u64; 768],
-    pub feeders: [u64; 768],
-    pub order: [u64; 768],
-    pub trips: [u64; 768],
-    pub counts: [u64; 768],
+    pub tree: Tree,
+    pub paths: Paths,
 }
 
 // The record of a line: behind the head and the stations.
@@ -78,13 +75,8 @@ impl Loaded {
     pub fn new() -> Loaded {
         Loaded {
             network: Network::new(Head::default()),
-            chains: tree::stations_space(),
-            nexts: tree::ends_space(),
-            sides: tree::lines_space(),
-            feeders: tree::lines_space(),
-            order: tree::lines_space(),
-            trips: tree::lines_space(),
-            counts: tree::lines_space(),
+            tree: Tree::new(),
+            paths: Paths::new(),
         }
     }
 
@@ -95,24 +87,9 @@ impl Loaded {
         ensures prepared { OnOk result (IsPrepared self.new) }
     {
         forest_rules(&self.network)?;
-        tree::link_ends(&self.network, &mut self.chains, &mut self.nexts);
-        tree::outwards(
-            &self.network,
-            &self.chains,
-            &self.nexts,
-            &mut self.sides,
-            &mut self.feeders,
-            &mut self.order,
-        );
-        paths::fill_trips(
-            &self.network,
-            &self.sides,
-            &self.feeders,
-            &self.order,
-            &mut self.trips,
-            &mut self.counts,
-        );
-        if series::over_series(&self.network, &self.sides, &self.counts) {
+        self.tree.grow(&self.network);
+        self.paths.follow(&self.network, &self.tree);
+        if series::over_series(&self.network, &self.tree, &self.paths) {
             return Err(Refusal::OverSeries);
         }
         Ok(())
@@ -128,23 +105,22 @@ impl Loaded {
     }
 
     // The customers behind each line.
-    pub fn customers(&self) -> [u64; 768]
+    pub fn customers(&self) -> Behind
         requires { IsLoaded self.now }
         ensures { HoldsCustomers self.now.network result }
     {
-        let mut sums = tree::lines_space();
-        outage::customers_behind(&self.network, &self.chains, &self.nexts, &mut sums);
-        sums
+        let mut behind = Behind::new();
+        behind.sum(&self.network, &self.tree);
+        behind
     }
 
     // The impact of a fault on each line, by the breaker that trips for it.
-    pub fn impacts(&self) -> [u64; 768]
+    pub fn impacts(&self) -> Impacts
         requires { IsLoaded self.now }
         ensures { HoldsImpacts self.now.network result }
     {
-        let sums = self.customers();
-        let mut impacts = tree::lines_space();
-        outage::impacts(&self.network, &self.trips, &sums, &mut impacts);
+        let mut impacts = Impacts::new();
+        impacts.fill(&self.network, &self.paths, &self.customers());
         impacts
     }
 }

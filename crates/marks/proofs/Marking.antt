@@ -1,11 +1,12 @@
 -- The places of a network that is read, by the codes of their ends.
-use Prim.Native.Nat.{ℕ, suc, ◌+◌, ◌*◌, ◌-◌, ◌/◌, ◌%◌, ◌≤◌, ◌<◌}
+use Prim.Native.Nat.{ℕ, zero, suc, ◌+◌, ◌*◌, ◌-◌, ◌/◌, ◌%◌, ◌≤◌, ◌<◌}
 use mathlib.Core.Path.{◌≡◌, refl, sym, ap, ◌∙◌}
 use mathlib.Core.Bool.{Bool, true, false}
 use mathlib.Core.Logic.{◌≢◌}
 use mathlib.Core.List.{List}
 use native.Mathlib.Decide.{ℕ_discrete}
 use native.Mathlib.Omega.{arith}
+use Rattle.std.specs.Prelude.{Option, None, Some, replicate}
 use lib.ListN.{length, get_or, set}
 use lib.Seq.{get_or-set_same, get_or-set_other}
 use Rattle.model.specs.Lists.{numbers, first_or}
@@ -17,8 +18,10 @@ use Rattle.savings.specs.First.{this}
 use Rattle.savings.specs.Breakers.{end_at}
 use Rattle.theory.specs.Reading.{PlaceFits, Read}
 use Rattle.theory.specs.Radial.{numbered-in}
+use Rattle.theory.specs.Gathering.{numbers-first, numbers-none}
 use Rattle.tree.specs.Linked.{end_code, code_end}
-use Rattle.marks.specs.Held.{place_on, HoldsPlaces}
+use Rattle.marks.specs.Held.{optional, place_on, HoldsPlaces}
+use Rattle.marks.specs.declared.Marks.{Marks}
 
 -- ── codes ──
 -- an end of a line
@@ -46,23 +49,33 @@ code_other e c h n = go (same_end e (code_end c)) refl
     go true q = absurd (n (sym (ap end_code (same_end-eq e (code_end c) q) ∙ code-of-end c h)))
     go false q = refl
 
--- ── numbers written one after the other ──
--- the entries from 1 to below k are the values of f
-abbrev pub Below : (ℕ → ℕ) → List ℕ → ℕ → Type 0
-Below f out k = (p : ℕ) → 1 ≤ p → p < k → get_or out p 0 ≡ f p
+-- ── numbers and their marks ──
+pub optional_some : (n : ℕ) → 1 ≤ n → Some n ≡ optional n
+optional_some zero h = absurd (omega arith)
+optional_some (suc n) h = refl
 
-pub below_next : (f : ℕ → ℕ) (out : List ℕ) (k r : ℕ) → k < length out → r ≡ f k → Below f out k → Below f (set out k r) (k + 1)
+-- a list of one value
+pub always : {A : Type 0} (x : A) (n k : ℕ) → get_or (replicate n x) k x ≡ x
+always x zero k = refl
+always x (suc n) zero = refl
+always x (suc n) (suc k) = always x n k
+
+-- the entries from 1 to below k are the values of f
+abbrev pub Below : (ℕ → Option ℕ) → List (Option ℕ) → ℕ → Type 0
+Below f out k = (p : ℕ) → 1 ≤ p → p < k → get_or out p None ≡ f p
+
+pub below_next : (f : ℕ → Option ℕ) (out : List (Option ℕ)) (k : ℕ) (r : Option ℕ) → k < length out → r ≡ f k → Below f out k → Below f (set out k r) (k + 1)
 below_next f out k r l e b p i j = go (ℕ_discrete p k)
   where
-    go : Dec (p ≡ k) → get_or (set out k r) p 0 ≡ f p
-    go (yes q) = ap (λ n. get_or (set out k r) n 0) q ∙ get_or-set_same out k r 0 l ∙ e ∙ ap f (sym q)
-    go (no q) = get_or-set_other out k p r 0 q ∙ b p i (omega arith)
+    go : Dec (p ≡ k) → get_or (set out k r) p None ≡ f p
+    go (yes q) = ap (λ n. get_or (set out k r) n None) q ∙ get_or-set_same out k r None l ∙ e ∙ ap f (sym q)
+    go (no q) = get_or-set_other out k p r None q ∙ b p i (omega arith)
 
 -- ── marks ──
--- the places with numbers above k are noted by their ends
-abbrev pub MarksAbove : Network → List ℕ → ℕ → Type 0
-MarksAbove N marks k = (code : ℕ) → 1 ≤ code → code ≤ 2 * length N.lines
-    → get_or marks code 0 ≡ first_or 0 (λ p. same_end (end_at N p) (code_end code)) (numbers (k + 1) (length N.places - k))
+-- the places with numbers from k on are marked
+abbrev pub MarkedFrom : Network → List (Option ℕ) → ℕ → Type 0
+MarkedFrom N marks k = (code : ℕ) → 1 ≤ code → code ≤ 2 * length N.lines
+    → get_or marks code None ≡ optional (first_or 0 (λ p. same_end (end_at N p) (code_end code)) (numbers k (length N.places + 1 - k)))
 
 module _ (N : Network) (d : Read N) where
   pub place-fits : (p : ℕ) → 1 ≤ p → p ≤ length N.places → PlaceFits (length N.lines) (place_at N p)
@@ -72,36 +85,31 @@ module _ (N : Network) (d : Read N) where
   pub place-there : (p : ℕ) → 1 ≤ p → p ≤ length N.places → There (end_at N p)
   place-there p a b = let f = place-fits p a b in record { line = f.line.low; first = f.side.low; second = f.side.high }
 
-  pub marks-none : (marks : List ℕ) → ((k : ℕ) → get_or marks k 0 ≡ 0) → MarksAbove N marks (length N.places)
-  unfolding first_or numbers
+  pub marks-none : (marks : List (Option ℕ)) → ((k : ℕ) → get_or marks k None ≡ None) → MarkedFrom N marks (length N.places + 1)
+  unfolding first_or
   marks-none marks z code a b = z code
-      ∙ ap (λ n. first_or 0 (λ p. same_end (end_at N p) (code_end code)) (numbers (length N.places + 1) n)) {x = 0} {y = length N.places - length N.places} (omega arith)
+      ∙ ap (λ ns. optional (first_or 0 (λ p. same_end (end_at N p) (code_end code)) ns)) (sym (numbers-none (length N.places + 1) (length N.places + 1) (omega arith)))
 
   -- one place more
-  pub marks-next : (marks : List ℕ) (p r : ℕ) → 1 ≤ p → p ≤ length N.places → r ≡ end_code (end_at N p) → r < length marks → MarksAbove N marks p → MarksAbove N (set marks r p) (p - 1)
-  unfolding first_or numbers
-  marks-next marks p r a b e l m code i j = go (ℕ_discrete code r) ∙ sym next
+  pub marks-next : (marks : List (Option ℕ)) (p r : ℕ) → 1 ≤ p → p ≤ length N.places → r ≡ end_code (end_at N p) → r < length marks → MarkedFrom N marks (p + 1) → MarkedFrom N (set marks r (Some p)) p
+  unfolding first_or
+  marks-next marks p r a b e l m code i j = go (ℕ_discrete code r) ∙ ap (λ ns. optional (first_or 0 test ns)) (sym (numbers-first p (length N.places + 1) (omega arith)))
     where
       test : ℕ → Bool
       test q = same_end (end_at N q) (code_end code)
 
       rest : ℕ
-      rest = first_or 0 test (numbers (p + 1) (length N.places - p))
+      rest = first_or 0 test (numbers (p + 1) (length N.places + 1 - (p + 1)))
 
-      next : first_or 0 test (numbers (p - 1 + 1) (length N.places - (p - 1))) ≡ this (test p) p rest
-      next =
-          ap (λ k. first_or 0 test (numbers k (length N.places - (p - 1)))) {x = p - 1 + 1} {y = p} (omega arith)
-          ∙ ap (λ k. first_or 0 test (numbers p k)) {x = length N.places - (p - 1)} {y = suc (length N.places - p)} (omega arith)
-
-      go : Dec (code ≡ r) → get_or (set marks r p) code 0 ≡ this (test p) p rest
+      go : Dec (code ≡ r) → get_or (set marks r (Some p)) code None ≡ optional (this (test p) p rest)
       go (yes q) =
-          ap (λ k. get_or (set marks r p) k 0) q ∙ get_or-set_same marks r p 0 l
-          ∙ ap (λ t. this t p rest) (sym (ap (λ c. same_end (end_at N p) (code_end c)) (q ∙ e) ∙ code_same (end_at N p) (place-there p a b)))
+          ap (λ k. get_or (set marks r (Some p)) k None) q ∙ get_or-set_same marks r (Some p) None l ∙ optional_some p a
+          ∙ ap (λ t. optional (this t p rest)) (sym (ap (λ c. same_end (end_at N p) (code_end c)) (q ∙ e) ∙ code_same (end_at N p) (place-there p a b)))
       go (no q) =
-          get_or-set_other marks r code p 0 q ∙ m code i j
-          ∙ ap (λ t. this t p rest) (sym (code_other (end_at N p) code i (λ h. q (h ∙ sym e))))
+          get_or-set_other marks r code (Some p) None q ∙ m code i j
+          ∙ ap (λ t. optional (this t p rest)) (sym (code_other (end_at N p) code i (λ h. q (h ∙ sym e))))
 
   -- all places
-  pub marks-all : (marks : List ℕ) → MarksAbove N marks 0 → HoldsPlaces N marks
+  pub marks-all : (m : Marks) → MarkedFrom N m.marks 1 → HoldsPlaces N m
   unfolding place_on place_numbers
-  marks-all marks m code a b = m code a b ∙ ap (λ n. first_or 0 (λ p. same_end (end_at N p) (code_end code)) (numbers 1 n)) {x = length N.places - 0} {y = length N.places} (omega arith)
+  marks-all m h code a b = h code a b ∙ ap (λ n. optional (first_or 0 (λ p. same_end (end_at N p) (code_end code)) (numbers 1 n))) {x = length N.places + 1 - 1} {y = length N.places} (omega arith)

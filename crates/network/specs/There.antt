@@ -1,5 +1,5 @@
 -- The stations, lines, ends and places that a network has.
-use Rattle.std.specs.Prelude.{ℕ, ◌≤◌, length}
+use Rattle.std.specs.Prelude.{ℕ, ◌-◌, ◌≤◌, length}
 use Rattle.model.specs.Lists.{numbered}
 use Rattle.model.specs.Network.{Network, Line, Place, no_line}
 use Rattle.model.specs.Paths.{End}
@@ -18,11 +18,6 @@ pub record LineThere (N : Network) (l : ℕ) : Type 0 where
   pub low : 1 ≤ l
   pub high : l ≤ length N.lines
 
-pub record EndThere (N : Network) (l side : ℕ) : Type 0 where
-  pub line : LineThere N l
-  pub first : 1 ≤ side
-  pub second : side ≤ 2
-
 pub record PlaceThere (N : Network) (p : ℕ) : Type 0 where
   pub low : 1 ≤ p
   pub high : p ≤ length N.places
@@ -36,3 +31,10 @@ end_in l side = record { line = l; side = side }
 
 abbrev pub place_on : (line side cost hours : ℕ) → Place
 place_on line side cost hours = record { line = line; side = side; cost = cost; hours = hours }
+
+-- the other end of a line, and the end that a place is on
+abbrev pub other_end : End → End
+other_end e = record { line = e.line; side = 3 - e.side }
+
+abbrev pub place_end : Place → End
+place_end p = record { line = p.line; side = p.side }

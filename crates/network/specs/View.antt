@@ -1,5 +1,6 @@
 -- The stations, lines and places that the code holds, as the definitions have them.
-use Rattle.std.specs.Prelude.{ℕ, true, false, eqb}
+use Rattle.std.specs.Prelude.{ℕ, zero, suc, ◌≤◌, ◌≡◌, refl, true, false, eqb}
+use Rattle.std.proofs.Common.{arith}
 use Rattle.model.specs.Network.{Station, Line, Place}
 use Rattle.network.specs.declared.Role.{Role}
 use Rattle.network.specs.declared.Role.TheVariants.{Mv, Hv}
@@ -24,6 +25,24 @@ state_number Open = 2
 abbrev pub side_number : Side → ℕ
 side_number One = 1
 side_number Two = 2
+
+-- the side that a number stands for
+abbrev pub side_of : ℕ → Side
+side_of n = elim (eqb n 1) [ true ↦ One | false ↦ Two ]
+
+pub side_again : (s : Side) → side_of (side_number s) ≡ s
+side_again One = refl
+side_again Two = refl
+
+pub number_again : (n : ℕ) → 1 ≤ n → n ≤ 2 → side_number (side_of n) ≡ n
+number_again zero a b = absurd (omega arith)
+number_again (suc zero) a b = refl
+number_again (suc (suc zero)) a b = refl
+number_again (suc (suc (suc n))) a b = absurd (omega arith)
+
+pub side_bounds : (s : Side) → (1 ≤ side_number s) × (side_number s ≤ 2)
+side_bounds One = (omega arith, omega arith)
+side_bounds Two = (omega arith, omega arith)
 
 abbrev pub station_of_held : HeldStation → Station
 station_of_held s = record { role = role_number s.role; customers = s.customers }

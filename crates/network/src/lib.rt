@@ -7,7 +7,7 @@ ghost use Rattle.model.specs.Network.{state_at};
 ghost use Rattle.model.specs.Paths.{no_station, state, station_at, is_hv, customers_of, is_plain, is_breaker, is_open};
 ghost use Rattle.model.specs.Sets.{place_at};
 ghost use Rattle.network.specs.View.{state_number, side_number, station_of_held, line_of_held, place_of_held, station_at_end};
-ghost use Rattle.network.specs.There.{StationThere, LineThere, EndThere, PlaceThere, line_in, end_in};
+ghost use Rattle.network.specs.There.{StationThere, LineThere, PlaceThere, line_in, other_end, place_end};
 ghost use Rattle.network.specs.Changed.{line_with_state, line_with_weight, with_lines, with_state, with_weight, with_adds, with_place, with_first_places, with_one_more, with_one_more_station, with_one_more_line};
 
 use arrayvec::ArrayVec;
@@ -72,6 +72,39 @@ impl Side {
         match self {
             Side::One => Side::Two,
             Side::Two => Side::One,
+        }
+    }
+}
+
+// An end of a line. A clause sees it as the definitions' record.
+#[derive(Clone, Copy, Debug, Default, PartialEq, Eq)]
+pub struct End {
+    pub line: usize,
+    pub side: Side,
+}
+
+impl Model for End {
+    ghost use Rattle.model.specs.Paths.{End as EdgeEnd};
+
+    ghost Value = { EdgeEnd };
+
+    ghost use Rattle.network.specs.View.{side_number, side_of, side_again};
+
+    ghost view = { λ e. record { line = e.line; side = side_number e.side } };
+
+    ghost inverse = { λ e. record { line = e.line; side = side_of e.side } };
+
+    ghost inverse_ok = { λ e h i. record { line = e.line; side = side_again e.side i } };
+}
+
+impl End {
+    // The other end of the line.
+    pub fn other(self) -> End
+        ensures { result ≡ other_end self }
+    {
+        End {
+            line: self.line,
+            side: self.side.other(),
         }
     }
 }
@@ -289,12 +322,16 @@ impl Network {
         self.place(place).line
     }
 
-    // The end, 1 or 2, of a place.
-    pub fn place_side(&self, place: usize) -> usize
+    // The end that a place is on.
+    pub fn place_end(&self, place: usize) -> End
         requires { PlaceThere self.now place }
-        ensures { result ≡ (place_at self.now place).side }
+        ensures { result ≡ place_end (place_at self.now place) }
     {
-        self.place(place).side.number()
+        let found = self.place(place);
+        End {
+            line: found.line,
+            side: found.side,
+        }
     }
 
     // The cost of a place.
@@ -313,44 +350,44 @@ impl Network {
         self.place(place).hours
     }
 
-    // The state of an end, 1 or 2, of a line.
-    fn state(&self, line: usize, side: usize) -> State
-        requires { EndThere self.now line side }
-        ensures { state_number result ≡ state self.now (end_in line side) }
+    // The state of an end.
+    fn state(&self, end: End) -> State
+        requires { LineThere self.now end.line }
+        ensures { state_number result ≡ state self.now end }
     {
-        self.line(line).state(Side::of(side))
+        self.line(end.line).state(end.side)
     }
 
-    // Whether an end, 1 or 2, of a line is plain.
-    pub fn is_plain(&self, line: usize, side: usize) -> bool
-        requires { EndThere self.now line side }
-        ensures { result ≡ is_plain self.now (end_in line side) }
+    // Whether an end is plain.
+    pub fn is_plain(&self, end: End) -> bool
+        requires { LineThere self.now end.line }
+        ensures { result ≡ is_plain self.now end }
     {
-        matches!(self.state(line, side), State::Plain)
+        matches!(self.state(end), State::Plain)
     }
 
-    // Whether an end, 1 or 2, of a line is a breaker.
-    pub fn is_breaker(&self, line: usize, side: usize) -> bool
-        requires { EndThere self.now line side }
-        ensures { result ≡ is_breaker self.now (end_in line side) }
+    // Whether an end is a breaker.
+    pub fn is_breaker(&self, end: End) -> bool
+        requires { LineThere self.now end.line }
+        ensures { result ≡ is_breaker self.now end }
     {
-        matches!(self.state(line, side), State::Breaker)
+        matches!(self.state(end), State::Breaker)
     }
 
-    // Whether an end, 1 or 2, of a line is open.
-    pub fn is_open(&self, line: usize, side: usize) -> bool
-        requires { EndThere self.now line side }
-        ensures { result ≡ is_open self.now (end_in line side) }
+    // Whether an end is open.
+    pub fn is_open(&self, end: End) -> bool
+        requires { LineThere self.now end.line }
+        ensures { result ≡ is_open self.now end }
     {
-        matches!(self.state(line, side), State::Open)
+        matches!(self.state(end), State::Open)
     }
 
-    // The station that an end, 1 or 2, of a line is at.
-    pub fn end_station(&self, line: usize, side: usize) -> usize
-        requires { EndThere self.now line side }
-        ensures { result ≡ station_at self.now (end_in line side) }
+    // The station that an end is at.
+    pub fn end_station(&self, end: End) -> usize
+        requires { LineThere self.now end.line }
+        ensures { result ≡ station_at self.now end }
     {
-        self.line(line).station(Side::of(side))
+        self.line(end.line).station(end.side)
     }
 
     // Adds a station behind the others.
@@ -400,13 +437,13 @@ impl Network {
         self.lines[line - 1] = new;
     }
 
-    // Sets the state of an end, 1 or 2, of a line.
-    pub fn set_state(&mut self, line: usize, side: usize, state: State)
-        requires { EndThere self.old line side }
-        ensures { self.new ≡ with_state self.old line side (state_number state) }
+    // Sets the state of an end.
+    pub fn set_state(&mut self, end: End, state: State)
+        requires { LineThere self.old end.line }
+        ensures { self.new ≡ with_state self.old end.line end.side (state_number state) }
     {
-        let new = self.line(line).with_state(Side::of(side), state);
-        self.set_line(line, new);
+        let new = self.line(end.line).with_state(end.side, state);
+        self.set_line(end.line, new);
     }
 
     // Sets the weight of a line.

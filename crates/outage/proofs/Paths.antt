@@ -1,5 +1,5 @@
 -- Paths to the HV station in a network that is read and keeps the rules: what lies behind an end, and how far the paths go.
-use Prim.Native.Nat.{ℕ, zero, suc, ◌-◌, ◌≤◌, ◌<◌}
+use Prim.Native.Nat.{ℕ, zero, suc, ◌+◌, ◌-◌, ◌≤◌, ◌<◌}
 use mathlib.Core.Path.{◌≡◌, refl, sym, ap, ◌∙◌, subst}
 use mathlib.Core.Bool.{true, false}
 use mathlib.Core.Logic.{◌≢◌, ◌⊎◌, inl, inr, ⊎_elim}
@@ -7,21 +7,26 @@ use mathlib.Core.List.Memᴰ
 use mathlib.Core.List.{List, [], ◌∷◌, Memᴰ}
 use native.Mathlib.Decide.{ℕ_discrete}
 use native.Mathlib.Omega.{arith}
+use lib.Dec.{eqb}
 use lib.ListN.{length}
+use borrow.Author.Tests.{eq-eqb, ne_eqb, eqb-false}
+use Rattle.std.specs.Prelude.{Option, None, Some}
 use Rattle.model.specs.Network.{Network}
-use Rattle.model.specs.Paths.{station, line, End, is_open, station_at, is_hv, at_hv, closed_ends}
+use Rattle.model.specs.Paths.{station, line, End, same_end, is_open, station_at, is_hv, at_hv, closed_ends}
 use Rattle.model.specs.Outage.{path_to_hv, customers_behind}
 use Rattle.graphs.specs.Graph.{stop}
+use Rattle.graphs.specs.Behind.{same_not}
 use Rattle.theory.specs.Reading.{Read}
-use Rattle.theory.specs.Ends.{closed-end}
+use Rattle.theory.specs.Ends.{same_end-is, end-discrete, closed-end}
 use Rattle.theory.specs.Radial.{Rules, station-in, root_in}
 use Rattle.theory.specs.Forest.{path-only, end-first, end-first-once}
 use Rattle.theory.specs.Behind.{far, far-not, other-end, ends-alike}
 use Rattle.tree.specs.Outwards.{first_end, near_end}
 use Rattle.tree.specs.Feeding.{Near}
-use Rattle.tree.proofs.Near.{near-is, near-end, near-station, hv-or-fed}
+use Rattle.network.specs.There.{LineThere}
+use Rattle.tree.proofs.Near.{near-is, near-end, near-station, hv-or-fed, far-first}
 use Rattle.tree.proofs.Lengths.{path-short}
-use Rattle.outage.specs.Below.{Leaves, AtLine, AtStation}
+use Rattle.outage.specs.Below.{came_end, Leaves, AtLine, AtStation}
 
 -- the end by which a line's near station is fed
 pub record Above (N : Network) (l : ℕ) (f : End) : Type 0 where
@@ -62,7 +67,7 @@ module _ (N : Network) (d : Read N) (r : Rules N) where
   module _ (e : End) (n : Near N e.line e) where
     -- a path goes on beyond the far end of a line, by an end that leaves the far station
     abbrev Beyond : List End → Type 0
-    Beyond p = (is_open N (far e) ≡ false) × (g : End) × Memᴰ g p × Leaves N (far e) (station_at N (far e)) g
+    Beyond p = (is_open N (far e) ≡ false) × (g : End) × Memᴰ g p × Leaves N (Some e.line) (station_at N (far e)) g
 
     module _ (l : ℕ) (a : 1 ≤ l) (b : l ≤ length N.lines) (w : l ≢ e.line) where
       -- a line's near end is not that of another line
@@ -78,7 +83,7 @@ module _ (N : Network) (d : Read N) (r : Rules N) where
           ap (is_open N) (sym (above-far p)) ∙ t.closed,
           near_end N l,
           subst (Memᴰ (near_end N l)) (sym t.path) (Memᴰ.head refl),
-          record { closed = (near-end N d r l (a, b)).closed; at = sym t.at ∙ ap (station_at N) (above-far p); other = λ x. w (sym (near-end N d r l (a, b)).own ∙ ap (λ (x : End). x.line) x) },
+          record { closed = (near-end N d r l (a, b)).closed; at = sym t.at ∙ ap (station_at N) (above-far p); other = ne_eqb (near_end N l).line e.line (λ x. w (sym (near-end N d r l (a, b)).own ∙ x)) },
         )
 
         -- it is on the path of the line that feeds this one
@@ -125,48 +130,82 @@ module _ (N : Network) (d : Read N) (r : Rules N) where
   pub hv-end : (l : ℕ) → 1 ≤ l → l ≤ length N.lines → (g : End) × Memᴰ g (path_to_hv N (line l)) × (is_open N g ≡ false) × (is_hv N (station_at N g) ≡ true)
   hv-end l a b = hv-end-within (length (path_to_hv N (line l))) l a b (omega arith)
 
-  -- ── the levels left ──
-  pub line-levels : (e : End) (k : ℕ) → AtLine N e k → 1 ≤ k
-  line-levels e k a = let x = closed-end N e a.near.closed in omega (arith, path-short N d r (line e.line) (x.0, x.1), a.enough)
+  -- ── the near end of a line ──
+  pub near-self : (l : ℕ) → LineThere N l → Near N (near_end N l).line (near_end N l)
+  near-self l i = let n = near-end N d r l (i.low, i.high) in subst (λ k. Near N k (near_end N l)) (sym n.own) n
 
-  pub station-levels : (e : End) (s k : ℕ) → AtStation N e s k → 1 ≤ k
-  station-levels e s k a = omega (arith, path-short N d r (station s) (a.low, a.high), a.enough)
+  pub near-line : (l : ℕ) → LineThere N l → (near_end N l).line ≡ l
+  near-line l i = (near-end N d r l (i.low, i.high)).own
+
+  pub enough-self : (l k : ℕ) → AtLine N l k → length (closed_ends N) < length (path_to_hv N (line (near_end N l).line)) + k
+  enough-self l k a = subst (λ m. length (closed_ends N) < length (path_to_hv N (line m)) + k) (sym (near-line l a.there)) a.enough
+
+  -- ── the levels left ──
+  pub line-levels : (l k : ℕ) → AtLine N l k → 1 ≤ k
+  line-levels l k a = omega (arith, path-short N d r (line l) (a.there.low, a.there.high), a.enough)
+
+  pub station-levels : (came : Option ℕ) (s k : ℕ) → AtStation N came s k → 1 ≤ k
+  station-levels came s k a = omega (arith, path-short N d r (station s) (a.low, a.high), a.enough)
 
   -- from a station to a line
-  pub at-line : (e : End) (s k : ℕ) → AtStation N e s k → (f : End) → Leaves N e s f → AtLine N f (k - 1)
-  at-line e s k a f l =
-      let p = a.below f l in
-      record { near = record { own = refl; closed = l.closed; path = p ∙ ap (λ x. f ∷ path_to_hv N (station x)) (sym l.at) }; enough = omega (arith, station-levels e s k a, ap length p, a.enough) }
+  pub at-line : (came : Option ℕ) (s k : ℕ) → AtStation N came s k → (f : End) → Leaves N came s f → AtLine N f.line (k - 1)
+  at-line came s k a f l =
+      let x = closed-end N f l.closed in
+      record { there = record { low = x.0; high = x.1 }; enough = omega (arith, station-levels came s k a, ap length (a.below f l), a.enough) }
+
+  pub leaves-near : (came : Option ℕ) (s k : ℕ) → AtStation N came s k → (f : End) → Leaves N came s f → near_end N f.line ≡ f
+  leaves-near came s k a f l = near-is N f.line f _ (a.below f l)
 
   -- from a line to its far station
-  pub at-far : (e : End) (k : ℕ) → AtLine N e k → is_open N (far e) ≡ false → AtStation N (far e) (station_at N (far e)) (k - 1)
-  unfolding first_end
-  at-far e k a c =
-      let x = closed-end N (far e) c in
-      let i = station-in N d (far e) x.0 x.1 in
-      record { low = i.0; high = i.1; below = λ f l. leads f l (end-first N d r f l.closed); enough = omega (arith, line-levels e k a, ap length fed, a.enough) }
-    where
-      fed : path_to_hv N (station (station_at N (far e))) ≡ far e ∷ path_to_hv N (line e.line)
-      fed = ⊎_elim (λ p. absurd (far-not e (ap first_end (sym p ∙ a.near.path)))) (λ p. p) (end-first N d r (far e) c)
+  module _ (l k : ℕ) (a : AtLine N l k) (c : is_open N (far (near_end N l)) ≡ false) where
+    far-in : LineThere N (far (near_end N l)).line
+    far-in = let x = closed-end N (far (near_end N l)) c in record { low = x.0; high = x.1 }
 
-      leads : (f : End) → Leaves N (far e) (station_at N (far e)) f
-          → (path_to_hv N (line f.line) ≡ f ∷ path_to_hv N (station (station_at N f))) ⊎ (path_to_hv N (station (station_at N f)) ≡ f ∷ path_to_hv N (line f.line))
-          → path_to_hv N (line f.line) ≡ f ∷ path_to_hv N (station (station_at N (far e)))
-      leads f l (inl p) = p ∙ ap (λ x. f ∷ path_to_hv N (station x)) l.at
-      leads f l (inr p) = absurd (l.other (ap first_end (sym p ∙ ap (λ x. path_to_hv N (station x)) l.at ∙ fed)))
+    fed : path_to_hv N (station (station_at N (far (near_end N l)))) ≡ far (near_end N l) ∷ path_to_hv N (line l)
+    fed = (far-first N d r l (a.there.low, a.there.high) c).path ∙ ap (λ m. far (near_end N l) ∷ path_to_hv N (line m)) (near-line l a.there)
+
+    leads : (f : End) → is_open N f ≡ false → station_at N f ≡ station_at N (far (near_end N l)) → f ≢ far (near_end N l) → path_to_hv N (line f.line) ≡ f ∷ path_to_hv N (station (station_at N (far (near_end N l))))
+    unfolding first_end
+    leads f o p n = ⊎_elim
+        (λ q. q ∙ ap (λ x. f ∷ path_to_hv N (station x)) p)
+        (λ q. absurd (n (ap first_end (sym q ∙ ap (λ x. path_to_hv N (station x)) p ∙ fed))))
+        (end-first N d r f o)
+
+    came-far : (f : End) → is_open N f ≡ false → station_at N f ≡ station_at N (far (near_end N l)) → same_end f (far (near_end N l)) ≡ eqb f.line l
+    came-far f o p = go (end-discrete f (far (near_end N l)))
+      where
+        go : Dec (f ≡ far (near_end N l)) → same_end f (far (near_end N l)) ≡ eqb f.line l
+        go (yes q) = (same_end-is f (far (near_end N l))).1 q ∙ sym (eq-eqb f.line l (ap (λ (x : End). x.line) q ∙ near-line l a.there))
+        go (no n) =
+            same_not same_end-is f (far (near_end N l)) n
+            ∙ sym (ne_eqb f.line l (λ z. omega (arith, ap length fed, ap length (leads f o p n), ap (λ m. length (path_to_hv N (line m))) z)))
+
+    pub at-far : AtStation N (Some l) (station_at N (far (near_end N l))) (k - 1)
+    at-far =
+        let i = station-in N d (far (near_end N l)) far-in.low far-in.high in
+        record {
+          low = i.0;
+          high = i.1;
+          below = λ f m. leads f m.closed m.at (λ q. eqb-false f.line l m.other (ap (λ (x : End). x.line) q ∙ near-line l a.there));
+          came-by = came-far;
+          enough = omega (arith, line-levels l k a, ap length fed, a.enough);
+        }
 
   -- at an HV station
-  pub at-hv : (e : End) (s k : ℕ) → is_hv N s ≡ true → length (closed_ends N) < k → AtStation N e s k
+  pub at-hv : (s k : ℕ) → is_hv N s ≡ true → length (closed_ends N) < k → AtStation N None s k
   unfolding at_hv
-  at-hv e s k h m =
+  at-hv s k h m =
       let i = root_in N d (station s) h in
-      record { low = i.0; high = i.1; below = λ f l. leads f l (end-first N d r f l.closed); enough = omega arith }
+      record { low = i.0; high = i.1; below = λ f l. leads f l (end-first N d r f l.closed); came-by = λ f c p. came f c; enough = omega arith }
     where
       none : [] ≡ path_to_hv N (station s)
       none = path-only N d r (root_in N d (station s) h) (record { root = station s; is-root = h; trail = record { walk = stop refl; once = tt } })
 
-      leads : (f : End) → Leaves N e s f
+      leads : (f : End) → Leaves N None s f
           → (path_to_hv N (line f.line) ≡ f ∷ path_to_hv N (station (station_at N f))) ⊎ (path_to_hv N (station (station_at N f)) ≡ f ∷ path_to_hv N (line f.line))
           → path_to_hv N (line f.line) ≡ f ∷ path_to_hv N (station s)
       leads f l (inl p) = p ∙ ap (λ x. f ∷ path_to_hv N (station x)) l.at
       leads f l (inr p) = absurd (omega (arith, ap length (none ∙ ap (λ x. path_to_hv N (station x)) (sym l.at) ∙ p)))
+
+      came : (f : End) → is_open N f ≡ false → same_end f (came_end N None) ≡ false
+      came f c = same_not same_end-is f (came_end N None) (λ q. let z : f.line ≡ 0 = ap (λ (x : End). x.line) q in omega (arith, (closed-end N f c).0))

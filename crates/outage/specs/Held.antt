@@ -1,13 +1,22 @@
--- Buffers with a number for each line of a network: line 1 has the first.
-use Rattle.std.specs.Prelude.{ℕ, ◌-◌, ◌≤◌, ◌≡◌, List, length, get_or}
+-- What is held of the lines of a network: the customers behind each, and the impact of a fault on it.
+use Rattle.std.specs.Prelude.{ℕ, ◌-◌, ◌≡◌, get_or}
 use Rattle.model.specs.Network.{Network}
 use Rattle.model.specs.Outage.{customers_behind, impact}
+use Rattle.network.specs.There.{LineThere}
 use Rattle.tree.specs.Outwards.{near_end}
+use Rattle.outage.specs.declared.Behind.{Behind}
+use Rattle.outage.specs.declared.Impacts.{Impacts}
 
 -- the customers behind each line
-abbrev pub HoldsCustomers : Network → List ℕ → Type 0
-HoldsCustomers N sums = (l : ℕ) → 1 ≤ l → l ≤ length N.lines → get_or sums (l - 1) 0 ≡ customers_behind N (near_end N l)
+abbrev pub customers_in : Behind → ℕ → ℕ
+customers_in b l = get_or b.customers (l - 1) 0
+
+abbrev pub HoldsCustomers : Network → Behind → Type 0
+HoldsCustomers N b = (l : ℕ) → LineThere N l → customers_in b l ≡ customers_behind N (near_end N l)
 
 -- the impact of a fault on each line
-abbrev pub HoldsImpacts : Network → List ℕ → Type 0
-HoldsImpacts N impacts = (l : ℕ) → 1 ≤ l → l ≤ length N.lines → get_or impacts (l - 1) 0 ≡ impact N l
+abbrev pub impact_in : Impacts → ℕ → ℕ
+impact_in x l = get_or x.impacts (l - 1) 0
+
+abbrev pub HoldsImpacts : Network → Impacts → Type 0
+HoldsImpacts N x = (l : ℕ) → LineThere N l → impact_in x l ≡ impact N l

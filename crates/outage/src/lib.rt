@@ -1,29 +1,32 @@
 // The customers behind each line, the impact of a fault on it, the total of the outage amounts and the SAIDI figure.
-// An end has a code: 1 and 2 are the ends of line 1, 3 and 4 those of line 2; 0 is none.
 #![tactic(auto)]
 
-ghost use Rattle.std.specs.Prelude.{◌≡◌, ◌+◌, ◌*◌, ◌-◌, ◌/◌, ◌^◌, ◌≤◌, ◌<◌, length, get_or};
+ghost use Rattle.std.specs.Prelude.{◌≡◌, ◌+◌, ◌*◌, ◌-◌, ◌^◌, ◌≤◌, ◌<◌};
 ghost use Rattle.model.specs.Paths.{is_open};
 ghost use Rattle.model.specs.Outage.{impact, outage_amount, total as total_of, figure};
 ghost use Rattle.theory.specs.Reading.{Read};
 ghost use Rattle.theory.specs.Radial.{Rules};
 ghost use Rattle.theory.specs.Sizes.{Sized};
 ghost use Rattle.theory.specs.Behind.{station_sum, line_sum};
-ghost use Rattle.network.specs.There.{LineThere, EndThere, end_in};
-ghost use Rattle.tree.specs.Linked.{code_end, Linked};
-ghost use Rattle.paths.specs.Held.{HoldsTrips};
-ghost use Rattle.outage.specs.Held.{HoldsCustomers, HoldsImpacts};
-ghost use Rattle.outage.specs.Below.{Ready, Leaves, AtLine, AtStation, Filled};
+ghost use Rattle.network.specs.There.{LineThere};
+ghost use Rattle.tree.specs.Linked.{LineHeld};
+ghost use Rattle.tree.specs.Outwards.{near_end};
+ghost use Rattle.tree.specs.Held.{HoldsTree};
+ghost use Rattle.paths.specs.Held.{trip_in, HoldsPaths};
+ghost use Rattle.outage.specs.Held.{customers_in, HoldsCustomers, impact_in, HoldsImpacts};
+ghost use Rattle.outage.specs.Below.{Ready, came_end, Leaves, AtLine, AtStation, Filled};
 
 use amounts::{Customers, Total, Weight};
-use network::Network;
+use network::{End, Network};
+use paths::Paths;
+use tree::Tree;
 
-// Whether a line hangs: its far end, 1 or 2, is open, and it feeds no station.
-fn hangs(net: &Network, line: usize, far: usize) -> bool
-    requires { EndThere net.now line far }
-    ensures { result ≡ is_open net.now (end_in line far) }
+// Whether a line hangs: its far end is open, and it feeds no station.
+fn hangs(net: &Network, far: End) -> bool
+    requires { LineThere net.now far.line }
+    ensures { result ≡ is_open net.now far }
 {
-    net.is_open(line, far)
+    net.is_open(far)
 }
 
 // The customers of a station and behind some lines that leave it, with those behind one more line.
@@ -34,148 +37,143 @@ fn with_those_behind(sum: u64, behind: u64) -> u64
     sum + behind
 }
 
-// The customers behind a station that we come to by an end (0 at an HV station): its own, and those behind each line that
-// leaves it. The customers behind these lines, and behind the lines beyond them, are stored in `sums`.
-#[cycle(line_sum_station_sum)]
-fn station_sum(
-    net: &Network,
-    chains: &[u64; 512],
-    nexts: &[u64; 1536],
-    sums: &mut [u64],
-    came: usize,
-    station: usize,
-    levels: usize,
-) -> u64
-    requires { Ready net.now chains.now nexts.now
-        × AtStation net.now (code_end came) station levels × (length sums.old ≡ 768) }
-    ensures { (result ≡ station_sum net.now levels (code_end came) station)
-        × Filled net.now (Leaves net.now (code_end came) station)
-        sums.old sums.new }
-{
-    let mut sum = net.customers(station);
-    let mut end = chains[station - 1] as usize;
-    while end != 0 {
-        let onward = end != came;
-        if onward {
-            let behind = line_sum(net, chains, nexts, sums, end, levels - 1);
-            sum = with_those_behind(sum, behind);
-        }
-        end = nexts[end - 1] as usize;
-    }
-    sum
-}
-
-// The customers behind a line that we come to by its near end: those behind its far station, or none if its far end is open.
-// They are stored in `sums`, with those of the lines beyond.
-#[cycle(line_sum_station_sum)]
-fn line_sum(
-    net: &Network,
-    chains: &[u64; 512],
-    nexts: &[u64; 1536],
-    sums: &mut [u64],
-    entered: usize,
-    levels: usize,
-) -> u64
-    requires { Ready net.now chains.now nexts.now × AtLine net.now (code_end entered) levels
-        × (length sums.old ≡ 768) }
-    ensures { (result ≡ line_sum net.now levels (code_end entered))
-        × Filled net.now (λ d. d ≡ code_end entered) sums.old sums.new }
-{
-    let line = (entered + 1) / 2;
-    // the far end
-    let side = 1 + entered % 2;
-    let mut sum: u64 = 0;
-    if !hangs(net, line, side) {
-        let station = net.end_station(line, side);
-        sum = station_sum(
-            net,
-            chains,
-            nexts,
-            sums,
-            2 * line + side - 2,
-            station,
-            levels - 1,
-        );
-    }
-    sums[line - 1] = sum;
-    sum
-}
-
-// The customers behind each line, from the HV stations outwards.
-fn sums_outwards(net: &Network, chains: &[u64; 512], nexts: &[u64; 1536], sums: &mut [u64])
-    requires { Ready net.now chains.now nexts.now × (length sums.old ≡ 768) }
-    ensures { HoldsCustomers net.now sums.new }
-{
-    let levels = 2 * net.line_count() + 1;
-    for station in 1..net.station_count() + 1 {
-        if net.is_hv(station) {
-            station_sum(net, chains, nexts, sums, 0, station, levels);
-        }
-    }
-}
-
 // The customers behind each line.
-pub fn customers_behind(
-    net: &Network,
-    chains: &[u64; 512],
-    nexts: &[u64; 1536],
-    sums: &mut [u64; 768],
-)
-    requires { Read net.now × Rules net.now
-        × Linked net.now chains.now nexts.now }
-    ensures { HoldsCustomers net.now sums.new }
-{
-    sums_outwards(net, chains, nexts, sums);
+#[derive(Drop)]
+pub struct Behind {
+    customers: [u64; 768],
 }
 
-// The line of the breaker that trips for line i + 1.
-fn trip_line(trips: &[u64; 768], i: usize) -> usize
-    requires { (i < 768) × (get_or trips.now i 0 ≤ 1536) }
-    ensures { result ≡ (get_or trips.now i 0 + 1) / 2 }
+impl Behind {
+    // Room for the customers behind 768 lines.
+    pub fn new() -> Behind {
+        Behind {
+            customers: [0; 768],
+        }
+    }
+
+    // The customers behind a line.
+    pub fn customers(&self, line: usize) -> u64
+        requires { LineHeld line }
+        ensures { result ≡ customers_in self.now line }
+    {
+        self.customers[line - 1]
+    }
+
+    // The customers behind a station that we come to by a line, none at an HV station: its own, and those behind each line that
+    // leaves it. The customers behind these lines, and behind the lines beyond them, are noted.
+    #[cycle(line_sum_station_sum)]
+    fn station_sum(
+        &mut self,
+        net: &Network,
+        tree: &Tree,
+        came: Option<usize>,
+        station: usize,
+        levels: usize,
+    ) -> u64
+        requires { Ready net.now tree.now × AtStation net.now came station levels }
+        ensures { (result ≡ station_sum net.now levels (came_end net.now came) station)
+            × Filled net.now (Leaves net.now came station) self.old self.new }
+    {
+        let mut sum = net.customers(station);
+        for end in tree.closed_ends(station) {
+            if !tree::is_of(end, came) {
+                let behind = self.line_sum(net, tree, end.line, levels - 1);
+                sum = with_those_behind(sum, behind);
+            }
+        }
+        sum
+    }
+
+    // The customers behind a line that we come to by its near end: those behind its far station, or none if its far end is open.
+    // They are noted, with those of the lines beyond.
+    #[cycle(line_sum_station_sum)]
+    fn line_sum(&mut self, net: &Network, tree: &Tree, line: usize, levels: usize) -> u64
+        requires { Ready net.now tree.now × AtLine net.now line levels }
+        ensures { (result ≡ line_sum net.now levels (near_end net.now line))
+            × Filled net.now (λ d. d ≡ near_end net.now line) self.old self.new }
+    {
+        let far = tree.far(line);
+        let sum = if hangs(net, far) {
+            0
+        } else {
+            self.station_sum(net, tree, Some(line), net.end_station(far), levels - 1)
+        };
+        self.customers[line - 1] = sum;
+        sum
+    }
+
+    // Sums the customers behind each line of a network, from the HV stations outwards.
+    pub fn sum(&mut self, net: &Network, tree: &Tree)
+        requires { Read net.now × Rules net.now × HoldsTree net.now tree.now }
+        ensures { HoldsCustomers net.now self.new }
+    {
+        let levels = 2 * net.line_count() + 1;
+        for station in 1..net.station_count() + 1 {
+            if net.is_hv(station) {
+                self.station_sum(net, tree, None, station, levels);
+            }
+        }
+    }
+}
+
+// The line of the breaker that trips for a line.
+fn trip_line(paths: &Paths, line: usize) -> usize
+    requires { LineHeld line }
+    ensures { result ≡ (trip_in paths.now line).line }
 {
-    (trips[i] as usize + 1) / 2
+    paths.trip(line).line
 }
 
 // The impact of a fault on each line: the customers behind the line of the breaker that trips for it.
-fn impacts_behind(net: &Network, trips: &[u64; 768], sums: &[u64; 768], out: &mut [u64])
-    requires { Read net.now × Rules net.now × HoldsTrips net.now trips.now
-        × HoldsCustomers net.now sums.now × (length out.old ≡ 768) }
-    ensures { HoldsImpacts net.now out.new }
-{
-    for i in 0..net.line_count() {
-        let line = trip_line(trips, i);
-        out[i] = sums[line - 1];
+#[derive(Drop)]
+pub struct Impacts {
+    impacts: [u64; 768],
+}
+
+impl Impacts {
+    // Room for the impacts of 768 lines.
+    pub fn new() -> Impacts {
+        Impacts { impacts: [0; 768] }
+    }
+
+    // Fills in the impacts of a network's lines.
+    pub fn fill(&mut self, net: &Network, paths: &Paths, behind: &Behind)
+        requires { Read net.now × Rules net.now × HoldsPaths net.now paths.now
+            × HoldsCustomers net.now behind.now }
+        ensures { HoldsImpacts net.now self.new }
+    {
+        for line in 1..net.line_count() + 1 {
+            self.impacts[line - 1] = behind.customers(trip_line(paths, line));
+        }
+    }
+
+    // The impact of a fault on a line.
+    pub fn impact(&self, line: usize) -> u64
+        requires { LineHeld line }
+        ensures { result ≡ impact_in self.now line }
+    {
+        self.impacts[line - 1]
     }
 }
 
-// The impact of a fault on each line.
-pub fn impacts(net: &Network, trips: &[u64; 768], sums: &[u64; 768], out: &mut [u64; 768])
-    requires { Read net.now × Rules net.now × HoldsTrips net.now trips.now
-        × HoldsCustomers net.now sums.now }
-    ensures { HoldsImpacts net.now out.new }
-{
-    impacts_behind(net, trips, sums, out);
-}
-
 // The outage amount of a line: its weight times the impact of a fault on it.
-pub fn outage_amount(net: &Network, impacts: &[u64; 768], line: usize) -> Total
+pub fn outage_amount(net: &Network, impacts: &Impacts, line: usize) -> Total
     requires { LineThere net.now line × Sized net.now
-        × (get_or impacts.now (line - 1) 0 ≡ impact net.now line) }
+        × (impact_in impacts.now line ≡ impact net.now line) }
     ensures { result.0 ≡ outage_amount net.now line }
 {
-    let weight = Weight::new(net.weight(line));
-    let customers = Customers::new(impacts[line - 1]);
-    amounts::times(weight, customers)
+    Weight(net.weight(line)) * Customers(impacts.impact(line))
 }
 
 // The total: the sum of the outage amounts of all lines.
-pub fn total_of(net: &Network, impacts: &[u64; 768]) -> Total
+pub fn total_of(net: &Network, impacts: &Impacts) -> Total
     requires { Read net.now × HoldsImpacts net.now impacts.now }
     ensures { result.0 ≡ total_of net.now }
 {
+    let lines = net.line_count();
     let mut total = Total::ZERO;
-    for line in 1..net.line_count() + 1 {
-        total = total.plus(outage_amount(net, impacts, line));
+    for line in 1..lines + 1 {
+        total += outage_amount(net, impacts, line);
     }
     total
 }

@@ -1,4 +1,6 @@
 -- What the paths of the lines meet, line by line from the HV stations outwards.
+use Rattle.std.specs.Prelude.{None, Some}
+use Rattle.std.proofs.lemmas.Option.{none-some, same_Some}
 use Prim.Native.Nat.{ℕ, zero, suc, ◌+◌, ◌-◌, ◌≤◌, ◌<◌}
 use mathlib.Core.Path.{◌≡◌, refl, sym, ap, ◌∙◌, subst}
 use mathlib.Core.List.{List, ◌∷◌}
@@ -11,21 +13,46 @@ use Rattle.model.specs.Paths.{line}
 use Rattle.model.specs.Outage.{tripped}
 use Rattle.theory.specs.Reading.{Read}
 use Rattle.theory.specs.Radial.{Rules}
+use Rattle.theory.specs.Forest.{tree}
 use Rattle.theory.specs.Behind.{far}
-use Rattle.tree.specs.Outwards.{near_end, feeder, Outwards}
+use Rattle.network.specs.There.{LineThere}
+use Rattle.tree.specs.Outwards.{near_end, feeder, some_line, fed_by}
 use Rattle.tree.specs.Feeding.{Fed, by_hv, by_line}
+use Rattle.tree.specs.Linked.{LineHeld}
+use Rattle.tree.specs.Held.{near_in, feeder_in, lines_in, HoldsTree}
+use Rattle.tree.specs.declared.Tree.{Tree}
 use Rattle.tree.proofs.Near.{feeder-none, feeds}
 use Rattle.tree.proofs.Lengths.{closed-length, path-closed, path-short}
 use Rattle.sets.specs.Sets.{route}
-use Rattle.marks.specs.Held.{HoldsPlaces, HoldsBreakers}
-use Rattle.paths.specs.Held.{HoldsFeeders, HoldsTrips, HoldsCounts, HoldsFirsts}
-use Rattle.paths.specs.Meets.{Meets, met_in, HoldsMet, path_beyond, Feeding, Known}
+use Rattle.marks.specs.Held.{mark_on, HoldsPlaces, HoldsBreakers}
+use Rattle.marks.specs.declared.Marks.{Marks}
+use Rattle.paths.specs.Held.{breaker_of, HoldsPaths, HoldsFirsts}
+use Rattle.paths.specs.Meets.{no_met, met_next, met_on, met_in, HoldsMets, path_beyond, Known}
 use Rattle.paths.specs.declared.Met.{Met}
-use Rattle.paths.proofs.Meeting.{AllClosed, marks-few, breakers-met, places-met}
+use Rattle.paths.specs.declared.Paths.{Paths}
+use Rattle.paths.specs.declared.Firsts.{Firsts}
+use Rattle.paths.proofs.Meeting.{AllClosed, marks-few, breakers-met, trips-met, places-met}
 
 pub beyond-is : (N : Network) (l : ℕ) → 1 ≤ l → far (near_end N l) ∷ route N l ≡ path_beyond N l
 beyond-is N zero h = absurd (omega arith)
 beyond-is N (suc l) h = refl
+
+-- ── the line that feeds a line ──
+none-line : (k : ℕ) → some_line k ≡ None → k ≡ 0
+none-line zero h = refl
+none-line (suc k) h = absurd (none-some (suc k) (sym h))
+
+a-line : (k l : ℕ) → some_line k ≡ Some l → (k ≡ l) × (1 ≤ k)
+a-line zero l h = absurd (none-some l h)
+a-line (suc k) l h = (same_Some (suc k) l h, omega arith)
+
+pub fed-none : (N : Network) (l : ℕ) → fed_by N l ≡ None → feeder N l ≡ 0
+unfolding fed_by
+fed-none N l h = none-line (feeder N l) h
+
+pub fed-some : (N : Network) (l k : ℕ) → fed_by N l ≡ Some k → (feeder N l ≡ k) × (1 ≤ feeder N l)
+unfolding fed_by
+fed-some N l k h = a-line (feeder N l) k h
 
 module _ (N : Network) (d : Read N) (r : Rules N) (l : ℕ) (i : 1 ≤ l) (j : l ≤ length N.lines) where
   -- the near end of a line is end 1 or 2 of it
@@ -54,89 +81,92 @@ module _ (N : Network) (d : Read N) (r : Rules N) (l : ℕ) (i : 1 ≤ l) (j : l
   pub route-short : length (route N l) ≤ 1536
   route-short = omega (arith, path-short N d r (line l) (i, j), closed-length N, d.line_count, d.head.lines.high)
 
-  pub meets-route : (marks : List ℕ) (k : ℕ) (m : Met) → k ≡ feeder N l → Meets marks (near_end N l ∷ path_beyond N k) m → Meets marks (route N l) m
-  meets-route marks k m f h = subst (λ es. Meets marks es m) ((λ i. near_end N l ∷ path_beyond N (f i)) ∙ route-is) h
+-- ── one line ──
+module _ {N : Network} {t : Tree} {marks : Marks} {mets : List Met} {l : ℕ} (k : Known N t marks mets l) where
+  by_near : met_next (mark_on marks (near_in t l)) (met_on marks (path_beyond N (feeder N l))) ≡ met_on marks (route N l)
+  unfolding met_on
+  by_near = ap (λ e. met_next (mark_on marks e) (met_on marks (path_beyond N (feeder N l)))) (k.tree.nears l k.there) ∙ ap (met_on marks) (route-is N k.read k.rules l k.there.low k.there.high)
 
--- ── a line and the line that feeds it ──
-module _ {N : Network} {marks sides firsts counts : List ℕ} {l : ℕ} (x : Feeding N marks sides firsts counts l) (i : 1 ≤ l) where
-  pub feeding-few : get_or counts (l - 1) 0 ≤ 1536
-  feeding-few = omega (arith, (x.met i).count, marks-few marks (route N l), route-short N x.read x.rules l i x.high)
+  -- at an HV station
+  pub met-hv : feeder_in t l ≡ None → met_next (mark_on marks (near_in t l)) no_met ≡ met_on marks (route N l)
+  unfolding met_on
+  met-hv h = ap (λ f. met_next (mark_on marks (near_in t l)) (met_on marks (path_beyond N f))) (sym (fed-none N l (sym (k.tree.feeds l k.there) ∙ h))) ∙ by_near
 
-module _ {N : Network} {marks sides feeders firsts counts : List ℕ} {l : ℕ} (x : Known N marks sides feeders firsts counts l) where
-  pub known-feeding : Feeding N marks sides firsts counts (get_or feeders (l - 1) 0)
-  known-feeding = subst (Feeding N marks sides firsts counts) (sym (x.fed.feeds l x.low x.high)) (record {
-    read = x.read;
-    rules = x.rules;
-    high = k;
-    nears = x.fed.nears;
-    met = x.above;
-    firsts_long = x.firsts_long;
-    counts_long = x.counts_long;
-  })
-    where
-      k : feeder N l ≤ length N.lines
-      k = feeder-high N x.read x.rules l x.low x.high
+  -- fed by a line
+  module _ (f : ℕ) (h : feeder_in t l ≡ Some f) where
+    fed : (feeder N l ≡ f) × (1 ≤ feeder N l)
+    fed = fed-some N l f (sym (k.tree.feeds l k.there) ∙ h)
+
+    pub fed-there : LineThere N f
+    fed-there = record { low = omega (arith, fed); high = omega (arith, fed, feeder-high N k.read k.rules l k.there.low k.there.high) }
+
+    pub fed-held : LineHeld f
+    fed-held = record { low = fed-there.low; high = omega (arith, fed-there.high, k.tree.lines) }
+
+    fed-met : met_in mets f ≡ met_on marks (route N f)
+    fed-met = subst (λ f. LineThere N f → met_in mets f ≡ met_on marks (route N f)) fed.0 k.above fed-there
+
+    pub fed-few : (met_in mets f).count ≤ 1536
+    fed-few = omega (arith, ap (λ (m : Met). m.count) fed-met, marks-few marks (route N f), route-short N k.read k.rules f fed-there.low fed-there.high)
+
+    pub met-fed : met_next (mark_on marks (near_in t l)) (met_next (mark_on marks (far (near_in t f))) (met_in mets f)) ≡ met_on marks (route N l)
+    unfolding met_on
+    met-fed =
+        (λ i. met_next (mark_on marks (near_in t l)) (met_next (mark_on marks (far (k.tree.nears f fed-there i))) (fed-met i)))
+        ∙ ap (λ es. met_next (mark_on marks (near_in t l)) (met_on marks es)) (beyond-is N f fed-there.low)
+        ∙ ap (λ f. met_next (mark_on marks (near_in t l)) (met_on marks (path_beyond N f))) (sym fed.0)
+        ∙ by_near
 
 -- ── the pass ──
--- the first i lines of the order have their numbers
-abbrev pub Done : Network → List ℕ → List ℕ → List ℕ → List ℕ → ℕ → Type 0
-Done N marks order firsts counts i = (j : ℕ) → j < i → Meets marks (route N (get_or order j 0)) (met_in firsts counts (get_or order j 0))
+-- the first i lines of the order have theirs
+abbrev pub Done : Network → Tree → Marks → List Met → ℕ → Type 0
+Done N t marks mets i = (j : ℕ) → j < i → met_in mets (get_or (lines_in t) j 0) ≡ met_on marks (route N (get_or (lines_in t) j 0))
 
-module _ (N : Network) (marks sides feeders order : List ℕ) (o : Outwards N sides feeders order) where
-  pub holds-feeders : HoldsFeeders N sides feeders
-  holds-feeders = record { nears = o.nears; feeds = o.feeds }
+module _ (N : Network) (t : Tree) (marks : Marks) (mets : List Met) (d : Read N) (r : Rules N) (o : HoldsTree N t) where
+  -- the next line
+  pub next_known : (i : ℕ) → i < length N.lines → Done N t marks mets i → Known N t marks mets (get_or (lines_in t) i 0)
+  next_known i q h = record {
+    read = d;
+    rules = r;
+    tree = o;
+    there = o.inside i q;
+    above = λ f. let x = o.after i q f.low in subst (λ l. met_in mets l ≡ met_on marks (route N l)) x.2 (h x.0 x.1);
+  }
 
-  module _ (firsts counts : List ℕ) (f : length firsts ≡ 768) (c : length counts ≡ 768) where
-    -- the next line
-    pub next_known : Read N → Rules N → (i : ℕ) → i < length N.lines → Done N marks order firsts counts i → Known N marks sides feeders firsts counts (get_or order i 0)
-    next_known d r i q h = record {
-      read = d;
-      rules = r;
-      fed = holds-feeders;
-      low = (o.inside i q).0;
-      high = (o.inside i q).1;
-      above = λ t. let x = o.after i q t in subst (λ l. Meets marks (route N l) (met_in firsts counts l)) x.2 (h x.0 x.1);
-      firsts_long = f;
-      counts_long = c;
-    }
+  -- one line more
+  pub done_more : length mets ≡ 768 → (i : ℕ) (m : Met) → i < length N.lines → m ≡ met_on marks (route N (get_or (lines_in t) i 0)) → Done N t marks mets i
+      → Done N t marks (set mets (get_or (lines_in t) i 0 - 1) m) (i + 1)
+  done_more long i m q e h j b = go (ℕ_discrete (get_or (lines_in t) j 0) l)
+    where
+      l : ℕ
+      l = get_or (lines_in t) i 0
 
-    -- one line more
-    pub done_more : length N.lines ≤ 768 → (i : ℕ) (m : Met) → i < length N.lines → Meets marks (route N (get_or order i 0)) m → Done N marks order firsts counts i
-        → Done N marks order (set firsts (get_or order i 0 - 1) m.first) (set counts (get_or order i 0 - 1) m.count) (i + 1)
-    done_more most i m q h d j t = go (ℕ_discrete (get_or order j 0) (get_or order i 0))
-      where
-        l : ℕ
-        l = get_or order i 0
+      there : LineThere N l
+      there = o.inside i q
 
-        at : (out : List ℕ) (n : ℕ) → length out ≡ 768 → n ≡ get_or (set out (l - 1) n) (l - 1) 0
-        at out n e = sym (get_or-set_same out (l - 1) n 0 (omega (arith, o.inside i q)))
+      go : Dec (get_or (lines_in t) j 0 ≡ l) → met_in (set mets (l - 1) m) (get_or (lines_in t) j 0) ≡ met_on marks (route N (get_or (lines_in t) j 0))
+      go (yes p) =
+          ap (met_in (set mets (l - 1) m)) p ∙ get_or-set_same mets (l - 1) m no_met (omega (arith, there.low, there.high, o.lines)) ∙ e ∙ ap (λ l. met_on marks (route N l)) (sym p)
+      go (no p) =
+          get_or-set_other mets (l - 1) (get_or (lines_in t) j 0 - 1) m no_met (λ z. p (omega (arith, z, there.low, (o.inside j (omega arith)).low)))
+          ∙ h j (before (ℕ_discrete j i))
+        where
+          before : Dec (j ≡ i) → j < i
+          before (yes x) = absurd (p (ap (λ m. get_or (lines_in t) m 0) x))
+          before (no x) = omega arith
 
-        go : Dec (get_or order j 0 ≡ l) → Meets marks (route N (get_or order j 0)) (met_in (set firsts (l - 1) m.first) (set counts (l - 1) m.count) (get_or order j 0))
-        go (yes p) =
-            subst (λ k. Meets marks (route N k) (met_in (set firsts (l - 1) m.first) (set counts (l - 1) m.count) k)) (sym p)
-            (subst (Meets marks (route N l)) (λ x. record { first = at firsts m.first f x; count = at counts m.count c x }) h)
-        go (no p) =
-            subst (Meets marks (route N (get_or order j 0))) (λ x. record { first = other firsts m.first x; count = other counts m.count x }) (d j (before (ℕ_discrete j i)))
-          where
-            other : (out : List ℕ) (n : ℕ) → get_or out (get_or order j 0 - 1) 0 ≡ get_or (set out (l - 1) n) (get_or order j 0 - 1) 0
-            other out n = sym (get_or-set_other out (l - 1) (get_or order j 0 - 1) n 0 (omega (arith, o.inside i q, o.inside j (omega arith))))
-
-            before : Dec (j ≡ i) → j < i
-            before (yes x) = absurd (p (ap (λ m. get_or order m 0) x))
-            before (no x) = omega arith
-
-    -- all lines
-    pub done_all : (i : ℕ) → length N.lines ≤ i → Done N marks order firsts counts i → HoldsMet N marks firsts counts
-    done_all i q d l u v = let x = o.listed l u v in subst (λ l. Meets marks (route N l) (met_in firsts counts l)) x.2 (d x.0 (omega (arith, x.1)))
+  -- all lines
+  pub done_all : (i : ℕ) → length N.lines ≤ i → Done N t marks mets i → HoldsMets N marks mets
+  done_all i q h l a = let x = o.listed l a in subst (λ l. met_in mets l ≡ met_on marks (route N l)) x.2 (h x.0 (omega (arith, x.1)))
 
 -- ── what they are ──
-module _ (N : Network) (d : Read N) (r : Rules N) (marks firsts counts : List ℕ) (m : HoldsMet N marks firsts counts) where
-  pub trips-held : HoldsBreakers N marks → HoldsTrips N firsts
+module _ (N : Network) (d : Read N) (r : Rules N) (marks : Marks) where
+  pub paths-held : (p : Paths) → HoldsMets N marks p.mets → HoldsBreakers N marks → HoldsPaths N p
   unfolding tripped
-  trips-held h l i j = (m l i j).first ∙ (breakers-met N marks h (route N l) (route-closed N d r l i j)).0
+  paths-held p m h = record {
+    trips = λ l a. ap (λ (m : Met). breaker_of m.first) (m l a) ∙ trips-met N marks h (route N l) (route-closed N d r l a.low a.high) ((tree N d r).trips l a.low a.high);
+    counts = λ l a. ap (λ (m : Met). m.count) (m l a) ∙ breakers-met N marks h (route N l) (route-closed N d r l a.low a.high);
+  }
 
-  pub counts-held : HoldsBreakers N marks → HoldsCounts N counts
-  counts-held h l i j = (m l i j).count ∙ (breakers-met N marks h (route N l) (route-closed N d r l i j)).1
-
-  pub firsts-held : HoldsPlaces N marks → HoldsFirsts N firsts
-  firsts-held h l i j = (m l i j).first ∙ places-met N d marks h (route N l) (route-closed N d r l i j)
+  pub firsts-held : (f : Firsts) → HoldsMets N marks f.mets → HoldsPlaces N marks → HoldsFirsts N f
+  firsts-held f m h l a = ap (λ (m : Met). m.first) (m l a) ∙ places-met N d marks h (route N l) (route-closed N d r l a.low a.high)

@@ -1,37 +1,50 @@
--- Buffers with a number for each line of a network, line 1 has the first: what the line's path to the HV station meets.
-use Rattle.std.specs.Prelude.{ℕ, ◌-◌, ◌≤◌, ◌≡◌, List, length, get_or}
+-- What is held of the path of each line to the HV station: the breaker that trips for the line and the breakers on the path; the
+-- first place.
+use Rattle.std.specs.Prelude.{ℕ, ◌≡◌, Option, None, Some}
 use Rattle.model.specs.Network.{Network}
-use Rattle.model.specs.Paths.{line}
+use Rattle.model.specs.Paths.{line, End}
 use Rattle.model.specs.Rules.{breakers_on}
 use Rattle.model.specs.Outage.{path_to_hv, tripped}
-use Rattle.tree.specs.Linked.{end_code}
-use Rattle.tree.specs.Outwards.{near_end, feeder}
+use Rattle.network.specs.There.{LineThere, end_in}
+use Rattle.theory.specs.Behind.{far}
+use Rattle.tree.specs.Linked.{code_end}
+use Rattle.tree.specs.Held.{near_in}
+use Rattle.tree.specs.declared.Tree.{Tree}
 use Rattle.sets.specs.Stops.{first_place}
 use Rattle.sets.specs.Apart.{place_ends}
 use Rattle.sets.specs.Sets.{route}
-use Rattle.marks.specs.Held.{place_on}
+use Rattle.marks.specs.Held.{optional, place_on, mark_on}
+use Rattle.marks.specs.declared.Marks.{Marks}
+use Rattle.paths.specs.Meets.{or_else, met_in}
+use Rattle.paths.specs.declared.Paths.{Paths}
+use Rattle.paths.specs.declared.Firsts.{Firsts}
 
--- the number of each line's near end
-abbrev pub HoldsSides : Network → List ℕ → Type 0
-HoldsSides N sides = (l : ℕ) → 1 ≤ l → l ≤ length N.lines → get_or sides (l - 1) 0 ≡ (near_end N l).side
+-- the breaker that trips for a line, by its code
+abbrev pub breaker_of : Option ℕ → End
+breaker_of None = end_in 0 1
+breaker_of (Some code) = code_end code
 
--- the near end of each line, and the line that feeds it
-pub record HoldsFeeders (N : Network) (sides feeders : List ℕ) : Type 0 where
-  pub nears : HoldsSides N sides
-  pub feeds : (l : ℕ) → 1 ≤ l → l ≤ length N.lines → get_or feeders (l - 1) 0 ≡ feeder N l
+-- what is held of a line: the breaker that trips for it, and how many breakers are on its path
+abbrev pub trip_in : Paths → ℕ → End
+trip_in p l = breaker_of (met_in p.mets l).first
 
--- the code of the breaker that trips for each line
-abbrev pub HoldsTrips : Network → List ℕ → Type 0
-HoldsTrips N trips = (l : ℕ) → 1 ≤ l → l ≤ length N.lines → get_or trips (l - 1) 0 ≡ end_code (tripped N l)
+abbrev pub count_in : Paths → ℕ → ℕ
+count_in p l = (met_in p.mets l).count
 
 -- the breakers on a line's path
 abbrev pub path_breakers : Network → ℕ → ℕ
 path_breakers N l = breakers_on N (path_to_hv N (line l))
 
--- the breakers on each line's path
-abbrev pub HoldsCounts : Network → List ℕ → Type 0
-HoldsCounts N counts = (l : ℕ) → 1 ≤ l → l ≤ length N.lines → get_or counts (l - 1) 0 ≡ path_breakers N l
+pub record HoldsPaths (N : Network) (p : Paths) : Type 0 where
+  pub trips : (l : ℕ) → LineThere N l → trip_in p l ≡ tripped N l
+  pub counts : (l : ℕ) → LineThere N l → count_in p l ≡ path_breakers N l
 
--- the first place on each line's path, 0 if it has none
-abbrev pub HoldsFirsts : Network → List ℕ → Type 0
-HoldsFirsts N firsts = (l : ℕ) → 1 ≤ l → l ≤ length N.lines → get_or firsts (l - 1) 0 ≡ place_on N (first_place (place_ends N) (route N l))
+-- the first place on the path of a line, and on that of the station that the line feeds
+abbrev pub first_in : Firsts → ℕ → Option ℕ
+first_in f l = (met_in f.mets l).first
+
+abbrev pub first_beyond_in : Firsts → Tree → Marks → ℕ → Option ℕ
+first_beyond_in f t places l = or_else (mark_on places (far (near_in t l))) (first_in f l)
+
+abbrev pub HoldsFirsts : Network → Firsts → Type 0
+HoldsFirsts N f = (l : ℕ) → LineThere N l → first_in f l ≡ optional (place_on N (first_place (place_ends N) (route N l)))

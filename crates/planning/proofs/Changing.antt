@@ -1,24 +1,31 @@
--- The network with a set's breakers: what is known of its buffer, and what is the same as without them.
+-- The network with a set's breakers: what is known of it, and what is the same as without them.
 use Prim.Native.Nat.{ℕ, ◌+◌, ◌-◌, ◌≤◌, ◌<◌}
 use mathlib.Core.Path.{◌≡◌, refl, sym, ap, ◌∙◌, subst}
+use mathlib.Core.Bool.{Bool, true, false}
 use mathlib.Core.List.{List, [], ◌∷◌, Sublistᴰ}
 use native.Mathlib.Numerals.{add-one}
 use native.Mathlib.Omega.{arith}
+use lib.Dec.{eqb}
 use lib.ListN.{length, get_or, take}
-use lib.Seq.{take-suc}
-use Rattle.model.specs.Network.{Network}
-use Rattle.model.specs.Paths.{line}
+use lib.Seq.{take-suc, take_all}
+use Rattle.model.specs.Lists.{keep}
+use Rattle.model.specs.Network.{Network, Station}
+use Rattle.model.specs.Paths.{End, line, station_at, closed_ends}
 use Rattle.model.specs.Outage.{customers_behind, total}
 use Rattle.model.specs.Sets.{place_numbers, place_at, with_breaker, with_breakers, set_total}
-use Rattle.savings.specs.Shape.{Same, path_to_hv-same, customers_behind-same}
+use Rattle.savings.specs.Shape.{Same, closed_ends-same, path_to_hv-same, customers_behind-same}
 use Rattle.savings.specs.Breakers.{with_breakers-same, with_breakers-append}
 use Rattle.theory.specs.Reading.{Read}
 use Rattle.theory.specs.Radial.{Rules}
 use Rattle.theory.specs.Best.{Accepted, member-place, set-valid}
 use Rattle.theory.specs.With.{with_read, with-rules}
-use Rattle.network.specs.There.{PlaceThere, EndThere}
+use Rattle.network.specs.There.{StationThere, LineThere, PlaceThere, place_end}
 use Rattle.network.specs.Changed.{with_state, breaker-is-state}
-use Rattle.tree.specs.Outwards.{first_end, near_end, second_line, feeder, Outwards}
+use Rattle.tree.specs.Linked.{ends_at}
+use Rattle.tree.specs.Outwards.{first_end, near_end, second_line, feeder, some_line, fed_by}
+use Rattle.tree.specs.declared.Tree.{Tree}
+use Rattle.tree.specs.Held.{lines_in, HoldsTree}
+use Rattle.outage.specs.declared.Behind.{Behind}
 use Rattle.outage.specs.Held.{HoldsCustomers}
 use Rattle.marks.proofs.Marking.{place-fits}
 
@@ -28,38 +35,41 @@ unfolding with_breakers with_breaker
 places_same [] N = refl
 places_same (p ∷ S) N = places_same S (with_breaker N (place_at N p))
 
--- a buffer with the breakers of a set's first i members, and the next member
-module _ (N : Network) (set : List ℕ) (count : ℕ) (x : Read N × (length set ≡ 16) × (count ≤ 16) × Sublistᴰ (take count set) (place_numbers N)) (b : Network) (i : ℕ) (e : b ≡ with_breakers N (take i set)) (h : i < count) where
+-- a list keeps the same by tests that say the same
+keep-alike : {A : Type 0} (f g : A → Bool) → ((x : A) → f x ≡ g x) → (xs : List A) → keep f xs ≡ keep g xs
+unfolding keep
+keep-alike f g h [] = refl
+keep-alike f g h (x ∷ xs) = (λ i. elim (h x i) [ true ↦ x ∷ keep f xs | false ↦ keep f xs ]) ∙ ap (λ ys. elim (g x) [ true ↦ x ∷ ys | false ↦ ys ]) (keep-alike f g h xs)
+
+-- a network with the breakers of a set's first i members, and the next member
+module _ (N : Network) (d : Read N) (S : List ℕ) (s : Sublistᴰ S (place_numbers N)) (b : Network) (i : ℕ) (e : b ≡ with_breakers N (take i S)) (h : i < length S) where
   abbrev p : ℕ
-  p = get_or set i 0
+  p = get_or S i 0
 
   read : Read b
-  read = subst Read (sym e) (with_read (take i set) N x.0)
+  read = subst Read (sym e) (with_read (take i S) N d)
 
   pub place-there : PlaceThere b p
   place-there =
-      let m = member-place N set count (omega (arith, x.1, x.2)) x.3 i h in record {
+      let m = member-place N S (length S) (omega arith) (subst (λ T. Sublistᴰ T (place_numbers N)) (sym (take_all (length S) S (omega arith))) s) i h in record {
         low = m.0;
-        high = subst (λ ps. p ≤ length ps) (sym (ap (λ (M : Network). M.places) e ∙ places_same (take i set) N)) m.1;
+        high = subst (λ ps. p ≤ length ps) (sym (ap (λ (M : Network). M.places) e ∙ places_same (take i S) N)) m.1;
       }
 
-  module _ {line side : ℕ} (f : line ≡ (place_at b p).line) (g : side ≡ (place_at b p).side) where
-    pub end-there : EndThere b line side
-    end-there =
-        let o = place-fits b read p place-there.low place-there.high in record {
-          line = record { low = omega (arith, f, o.line.low); high = omega (arith, f, o.line.high) };
-          first = omega (arith, g, o.side.low);
-          second = omega (arith, g, o.side.high);
-        }
+  module _ {f : End} (g : f ≡ place_end (place_at b p)) where
+    pub line-there : LineThere b f.line
+    line-there =
+        let o = place-fits b read p place-there.low place-there.high in
+        subst (λ (e : End). LineThere b e.line) (sym g) (record { low = o.line.low; high = o.line.high })
 
     -- its breaker is added
-    pub one_more : {M : Network} → M ≡ with_state b line side 1 → M ≡ with_breakers N (take (i + 1) set)
+    pub one_more : {M : Network} → M ≡ with_state b f.line f.side 1 → M ≡ with_breakers N (take (i + 1) S)
     unfolding with_breakers
     one_more w =
-        w ∙ (λ j. with_state b (f j) (g j) 1) ∙ sym (breaker-is-state b (place_at b p))
+        w ∙ (λ j. with_state b (g j).line (g j).side 1) ∙ sym (breaker-is-state b (place_at b p))
         ∙ ap (λ (M : Network). with_breaker M (place_at M p)) e
-        ∙ sym (with_breakers-append (take i set) (p ∷ []) N)
-        ∙ ap (with_breakers N) (sym (ap (λ n. take n set) (add-one i) ∙ take-suc set i 0 (omega (arith, x.1, x.2, h))))
+        ∙ sym (with_breakers-append (take i S) (p ∷ []) N)
+        ∙ ap (with_breakers N) (sym (ap (λ n. take n S) (add-one i) ∙ take-suc S i 0 h))
 
 -- two networks that differ in their breakers alone
 module _ (M N : Network) (s : Same M N) where
@@ -74,19 +84,37 @@ module _ (M N : Network) (s : Same M N) where
   in_both : {l : ℕ} → l ≤ length M.lines → l ≤ length N.lines
   in_both h = omega (arith, s.line_count)
 
-  outwards-same : {sides feeders order : List ℕ} → Outwards N sides feeders order → Outwards M sides feeders order
-  outwards-same {sides} {feeders} {order} o = record {
-    nears = λ l a b. o.nears l a (in_both b) ∙ ap (λ e. e.side) (sym (near_end-same l));
-    feeds = λ l a b. o.feeds l a (in_both b) ∙ sym (feeder-same l);
-    listed = λ l a b. let x = o.listed l a (in_both b) in (x.0, omega (arith, x.1, s.line_count), x.2);
-    inside = λ i h. let x = o.inside i (omega (arith, s.line_count)) in (x.0, omega (arith, x.1, s.line_count));
-    after = λ i h k. let x = o.after i (omega (arith, s.line_count)) (omega (arith, k, feeder-same (get_or order i 0))) in (x.0, x.1, x.2 ∙ sym (feeder-same (get_or order i 0)));
+  line-in : {l : ℕ} → LineThere M l → LineThere N l
+  line-in t = record { low = t.low; high = in_both t.high }
+
+  station-in : {l : ℕ} → StationThere M l → StationThere N l
+  station-in {l} t = record { low = t.low; high = subst (λ (xs : List Station). l ≤ length xs) s.stations t.high }
+
+  ends_at-same : (t : ℕ) → ends_at M t ≡ ends_at N t
+  ends_at-same t = ap (keep (λ e. eqb (station_at M e) t)) (closed_ends-same M N s) ∙ keep-alike (λ e. eqb (station_at M e) t) (λ e. eqb (station_at N e) t) (λ e. ap (λ x. eqb x t) (s.station_of e)) (closed_ends N)
+
+  fed_by-same : (l : ℕ) → fed_by M l ≡ fed_by N l
+  unfolding fed_by
+  fed_by-same l = ap some_line (feeder-same l)
+
+  tree-same : (t : Tree) → HoldsTree N t → HoldsTree M t
+  tree-same t o = record {
+    stations = subst (λ (xs : List Station). length xs ≤ 512) (sym s.stations) o.stations;
+    lines = omega (arith, o.lines, s.line_count);
+    has = λ k h. o.has k (station-in h);
+    ends = λ k h. o.ends k (station-in h) ∙ sym (ends_at-same k);
+    nears = λ l h. o.nears l (line-in h) ∙ sym (near_end-same l);
+    feeds = λ l h. o.feeds l (line-in h) ∙ sym (fed_by-same l);
+    count = o.count ∙ sym s.line_count;
+    listed = λ l h. let x = o.listed l (line-in h) in (x.0, omega (arith, x.1, s.line_count), x.2);
+    inside = λ i h. let x = o.inside i (omega (arith, s.line_count)) in record { low = x.low; high = omega (arith, x.high, s.line_count) };
+    after = λ i h k. let x = o.after i (omega (arith, s.line_count)) (omega (arith, k, feeder-same (get_or (lines_in t) i 0))) in (x.0, x.1, x.2 ∙ sym (feeder-same (get_or (lines_in t) i 0)));
   }
 
-  customers-same : (sums : List ℕ) → HoldsCustomers N sums → HoldsCustomers M sums
-  customers-same sums c l a b = c l a (in_both b) ∙ sym (customers_behind-same M N s (near_end M l) ∙ ap (customers_behind N) (near_end-same l))
+  customers-same : (b : Behind) → HoldsCustomers N b → HoldsCustomers M b
+  customers-same b c l h = c l (line-in h) ∙ sym (customers_behind-same M N s (near_end M l) ∙ ap (customers_behind N) (near_end-same l))
 
--- a buffer that holds an accepted network with a set's breakers
+-- an accepted network with a set's breakers
 module _ (N : Network) (a : Accepted N) (S : List ℕ) (s : Sublistᴰ S (place_numbers N)) (b : Network) (e : b ≡ with_breakers N S) where
   same : Same b N
   same = subst (λ M. Same M N) (sym e) (with_breakers-same S N (set-valid N a s))
@@ -97,10 +125,10 @@ module _ (N : Network) (a : Accepted N) (S : List ℕ) (s : Sublistᴰ S (place_
   pub rules-still : Rules b
   rules-still = subst Rules (sym e) (with-rules N a.read a.rules S (set-valid N a s))
 
-  pub outwards-still : {sides feeders order : List ℕ} → Outwards N sides feeders order → Outwards b sides feeders order
-  outwards-still = outwards-same b N same
+  pub tree-still : (t : Tree) → HoldsTree N t → HoldsTree b t
+  tree-still = tree-same b N same
 
-  pub customers-still : (sums : List ℕ) → HoldsCustomers N sums → HoldsCustomers b sums
+  pub customers-still : (x : Behind) → HoldsCustomers N x → HoldsCustomers b x
   customers-still = customers-same b N same
 
   pub total-still : {t : ℕ} → t ≡ total b → t ≡ set_total N S

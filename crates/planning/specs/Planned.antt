@@ -1,7 +1,6 @@
 -- What a search found.
-use Rattle.std.specs.Prelude.{take}
 use Rattle.model.specs.Walk.{Found}
 use Rattle.planning.specs.declared.Plan.{Plan}
 
 abbrev pub plan_found : Plan → Found
-plan_found p = record { members = take p.count p.set; best = p.total.0; visits = p.visits; spent = p.spent }
+plan_found p = record { members = p.members.items; best = p.total.0; visits = p.visits; spent = p.spent }

@@ -1,11 +1,11 @@
 -- How much the total falls with one more place: the place's weight times the customers that its breaker spares.
-use Prim.Native.Nat.{ℕ, ◌+◌, ◌*◌, ◌-◌, ◌/◌, ◌^◌, ◌≤◌, ◌<◌}
+use Prim.Native.Nat.{ℕ, ◌+◌, ◌*◌, ◌-◌, ◌^◌, ◌≤◌, ◌<◌}
 use mathlib.Core.Path.{◌≡◌, sym, ap, ◌∙◌}
 use mathlib.Core.Bool.{false}
 use mathlib.Core.List.{List, [], ◌∷◌, ◌++◌}
 use native.Mathlib.Nat.{mul-add}
 use native.Mathlib.Omega.{arith}
-use lib.ListN.{get_or}
+use Rattle.std.specs.Prelude.{Option}
 use Rattle.model.specs.Network.{Network}
 use Rattle.model.specs.Paths.{End, is_open}
 use Rattle.model.specs.Outage.{customers_behind}
@@ -14,17 +14,19 @@ use Rattle.savings.specs.Breakers.{end_at}
 use Rattle.savings.specs.Totals.{breakers_with}
 use Rattle.theory.specs.Ends.{closed-end}
 use Rattle.theory.specs.Sizes.{read-sized, set_total-size}
-use Rattle.theory.specs.Behind.{side-of}
-use Rattle.tree.specs.Linked.{end_code}
-use Rattle.outage.specs.Held.{HoldsCustomers}
+use Rattle.tree.specs.Linked.{LineHeld}
+use Rattle.outage.specs.declared.Behind.{Behind}
+use Rattle.outage.specs.Held.{HoldsCustomers, customers_in}
 use Rattle.outage.proofs.Paths.{behind-line}
+use Rattle.relations.specs.declared.Relations.{Relations}
+use Rattle.starts.specs.declared.Outlook.{Outlook}
 use Rattle.sets.specs.Sets.{upstream_at, weight_at, set-total}
 use Rattle.prospects.specs.Chosen.{Chosen, Later}
 use Rattle.prospects.proofs.Upstream.{end-closed, before-free, upstream-closed, behind-upstream}
 use Rattle.prospects.proofs.OneMore.{before-later}
 use Rattle.prospects.proofs.Outlooks.{chosen-valid}
 
-module _ {N : Network} {relations outlook S : List ℕ} {pending p : ℕ} (y : Later N relations outlook S pending p) where
+module _ {N : Network} {relations : Relations} {outlook : Outlook} {S : List ℕ} {pending : Option ℕ} {p : ℕ} (y : Later N relations outlook S pending p) where
   abbrev x : Chosen N relations S y.last
   x = y.chosen
 
@@ -43,32 +45,29 @@ module _ {N : Network} {relations outlook S : List ℕ} {pending p : ℕ} (y : L
   upstream-shut : is_open N upstream ≡ false
   upstream-shut = upstream-closed N x.accepted S (chosen-valid x) e closed free
 
-  pub own_line : {line : ℕ} → line ≡ (place_at N p).line → (1 ≤ line) × (line ≤ 768)
-  own_line q = let l = closed-end N e closed in (omega (arith, q, l.0), omega (arith, q, l.1, x.accepted.read.line_count, x.accepted.read.head.lines.high))
+  -- the line of the place, and that of the breaker upstream of it
+  module _ {own up : ℕ} (q : own ≡ (place_at N p).line) (u : up ≡ upstream.line) where
+    pub own-there : LineHeld own
+    own-there = let l = closed-end N e closed in record { low = omega (arith, q, l.0); high = omega (arith, q, l.1, x.accepted.read.line_count, x.accepted.read.head.lines.high) }
 
-  -- the line of the upstream breaker, by its code
-  module _ {code : ℕ} (c : code ≡ end_code upstream) where
-    line-is : (code + 1) / 2 ≡ upstream.line
-    line-is = let l = closed-end N upstream upstream-shut in let s = side-of N upstream upstream-shut in omega (arith, c, l.0)
+    pub up-there : LineHeld up
+    up-there = let l = closed-end N upstream upstream-shut in record { low = omega (arith, u, l.0); high = omega (arith, u, l.1, x.accepted.read.line_count, x.accepted.read.head.lines.high) }
 
-    pub line-there : (1 ≤ (code + 1) / 2) × ((code + 1) / 2 ≤ 768)
-    line-there = let l = closed-end N upstream upstream-shut in (omega (arith, line-is, l.0), omega (arith, line-is, l.1, x.accepted.read.line_count, x.accepted.read.head.lines.high))
-
-    module _ (sums : List ℕ) (h : HoldsCustomers N sums) {line : ℕ} (q : line ≡ (place_at N p).line) where
+    module _ (b : Behind) (h : HoldsCustomers N b) where
       abbrev spared : ℕ
-      spared = get_or sums ((code + 1) / 2 - 1) 0 - get_or sums (line - 1) 0
+      spared = customers_in b up - customers_in b own
 
-      behind-upstream-is : get_or sums ((code + 1) / 2 - 1) 0 ≡ customers_behind N upstream
+      behind-upstream-is : customers_in b up ≡ customers_behind N upstream
       behind-upstream-is =
           let l = closed-end N upstream upstream-shut in
-          ap (λ k. get_or sums (k - 1) 0) line-is ∙ h upstream.line l.0 l.1 ∙ sym (behind-line N x.accepted.read x.accepted.rules upstream upstream-shut)
+          ap (customers_in b) u ∙ h upstream.line (record { low = l.0; high = l.1 }) ∙ sym (behind-line N x.accepted.read x.accepted.rules upstream upstream-shut)
 
-      behind-place-is : get_or sums (line - 1) 0 ≡ customers_behind N e
+      behind-place-is : customers_in b own ≡ customers_behind N e
       behind-place-is =
           let l = closed-end N e closed in
-          ap (λ k. get_or sums (k - 1) 0) q ∙ h e.line l.0 l.1 ∙ sym (behind-line N x.accepted.read x.accepted.rules e closed)
+          ap (customers_in b) q ∙ h e.line (record { low = l.0; high = l.1 }) ∙ sym (behind-line N x.accepted.read x.accepted.rules e closed)
 
-      pub no-fewer : get_or sums (line - 1) 0 ≤ get_or sums ((code + 1) / 2 - 1) 0
+      pub no-fewer : customers_in b own ≤ customers_in b up
       no-fewer = omega (arith, behind-upstream-is, behind-place-is, behind-upstream N x.accepted S (chosen-valid x) e closed free)
 
       module _ {weight : ℕ} (w : weight ≡ weight_at N S e) where

@@ -1,29 +1,35 @@
 -- What the outlook says of a place after the last member of the chosen set.
-use Prim.Native.Nat.{ℕ, ◌+◌, ◌*◌, ◌≤◌, ◌<◌, max}
+use Prim.Native.Nat.{ℕ, ◌+◌, ◌≤◌, ◌<◌, max}
 use mathlib.Core.Path.{◌≡◌, sym, ap, ◌∙◌}
 use mathlib.Core.Logic.{inl, inr, ⊎_elim}
+use mathlib.Core.Bool.{Bool, true, false, true≢false}
 use mathlib.Core.List.{List}
 use native.Mathlib.Omega.{arith}
-use lib.ListN.{length, get_or}
+use lib.ListN.{length}
+use Rattle.std.specs.Prelude.{Option, None, Some}
+use Rattle.std.specs.Option.{unwrap_or}
+use Rattle.std.proofs.lemmas.Option.{none-some}
 use Rattle.model.specs.Network.{Network}
-use Rattle.model.specs.Paths.{End}
+use Rattle.model.specs.Paths.{End, same_end}
 use Rattle.model.specs.Outage.{path_to_hv}
 use Rattle.graphs.specs.Tree.{count_of}
+use Rattle.savings.specs.Facts.{same_end-eq, same_end-refl}
 use Rattle.savings.specs.Breakers.{end_at, Valid}
 use Rattle.savings.specs.Totals.{breakers_with}
 use Rattle.theory.specs.Behind.{vertices}
-use Rattle.tree.specs.Linked.{end_code}
 use Rattle.sets.specs.Ways.{has}
 use Rattle.sets.specs.InSeries.{most-less}
 use Rattle.sets.specs.Sets.{upstream_at, weight_at, in_series_at, series-set}
-use Rattle.relations.specs.Related.{relation}
-use Rattle.marks.specs.Held.{HoldsEnds}
-use Rattle.starts.specs.Outlook.{Values}
+use Rattle.relations.specs.declared.Relation.TheVariants.{Apart, Behind, Above}
+use Rattle.relations.specs.declared.Relations.{Relations}
+use Rattle.relations.specs.Related.{relation, between_in}
+use Rattle.starts.specs.declared.Outlook.{Outlook}
+use Rattle.starts.specs.Outlook.{Values, prospect_of}
 use Rattle.prospects.specs.Chosen.{Chosen, Without, Pending, Later}
 use Rattle.prospects.proofs.Upstream.{before-valid}
-use Rattle.prospects.proofs.OneMore.{upstream-new, upstream-old, weight-less, weight-same, in-series-behind, in-series-ahead, in-series-apart}
+use Rattle.prospects.proofs.OneMore.{nth, upstream-new, upstream-old, weight-less, weight-same, in-series-behind, in-series-above, in-series-apart}
 
-module _ {N : Network} {relations S : List ℕ} {last : ℕ} (x : Chosen N relations S last) where
+module _ {N : Network} {relations : Relations} {S : List ℕ} {last : ℕ} (x : Chosen N relations S last) where
   pub chosen-valid : Valid N S
   chosen-valid = before-valid N x.accepted (last + 1) (omega (arith, x.high)) S x.members
 
@@ -37,108 +43,117 @@ module _ {N : Network} {relations S : List ℕ} {last : ℕ} (x : Chosen N relat
   )
 
   -- a later place
-  pub later_of : {outlook : List ℕ} {pending : ℕ} → Pending N outlook S last pending → (p : ℕ) → last < p → p ≤ length N.places → Later N relations outlook S pending p
+  pub later_of : {outlook : Outlook} {pending : Option ℕ} → Pending N outlook S last pending → (p : ℕ) → last < p → p ≤ length N.places → Later N relations outlook S pending p
   later_of l p a b = record {
     last = last;
     chosen = x;
     low = a;
     high = b;
-    early = ⊎_elim (λ s. omega (arith, s.0)) (λ s. omega (arith, s.0)) l;
     values = ⊎_elim (λ s. inl (s.0, s.1 p (omega arith) b)) (λ s. inr (s.0, s.1, s.2 last (omega arith) x.high, s.2 p (omega arith) b)) l;
   }
 
-module _ {N : Network} {relations outlook S : List ℕ} {pending p : ℕ} (y : Later N relations outlook S pending p) where
+some-same : {a b : ℕ} → Some a ≡ Some b → a ≡ b
+some-same e = ap (λ o. unwrap_or o 0) e
+
+some-none : {a : ℕ} → Some a ≡ None → ⊥
+some-none {a} e = none-some a (sym e)
+
+module _ {N : Network} {relations : Relations} {outlook : Outlook} {S : List ℕ} {pending : Option ℕ} {p : ℕ} (y : Later N relations outlook S pending p) where
   abbrev x : Chosen N relations S y.last
   x = y.chosen
 
   abbrev last : ℕ
   last = y.last
 
-  abbrev related : ℕ
-  related = get_or relations (pending * 65 + p) 0
-
-  -- row 0 of the relations, of no place
-  related-none : pending ≡ 0 → related ≡ 0
-  related-none z = ap (λ i. get_or relations i 0) {x = pending * 65 + p} {y = p} (omega arith) ∙ x.related.none p (omega (arith, y.high, x.accepted.read.place_count))
+  abbrev d : End
+  d = end_at N p
 
   -- the last member is not in the outlook yet
-  module _ (b : pending ≡ last) (w : Without S last) (v : Values N w.rest last outlook) (u : Values N w.rest p outlook) where
-    related-is : related ≡ relation N last p
-    related-is = ap (λ q. get_or relations (q * 65 + p) 0) b ∙ x.related.each last p w.low x.high (omega (arith, y.low)) y.high
+  module _ {q : ℕ} (z : pending ≡ Some q) where
+    lastly : (q ≡ last) × (w : Without S last) × Values N w.rest last outlook × Values N w.rest p outlook
+    lastly = ⊎_elim (λ s. absurd (some-none (sym z ∙ s.0))) (λ s. (some-same (sym z ∙ s.0), s.1, s.2, s.3)) y.values
 
-    -- one upstream breaker has the code of the other
-    codes : get_or outlook p 0 ≡ get_or outlook pending 0 → end_code (upstream_at N w.rest (end_at N p)) ≡ end_code (upstream_at N w.rest (end_at N last))
-    codes c = sym u.upstream ∙ c ∙ ap (λ q. get_or outlook q 0) b ∙ v.upstream
+    abbrev w : Without S last
+    w = lastly.1
 
-    codes-back : end_code (upstream_at N w.rest (end_at N p)) ≡ end_code (upstream_at N w.rest (end_at N last)) → get_or outlook p 0 ≡ get_or outlook pending 0
-    codes-back c = u.upstream ∙ c ∙ sym v.upstream ∙ ap (λ q. get_or outlook q 0) (sym b)
+    abbrev v : Values N w.rest last outlook
+    v = lastly.2
 
-    upstream-kept-last : (related ≡ 1 → get_or outlook p 0 ≡ get_or outlook pending 0 → ⊥) → get_or outlook p 0 ≡ end_code (upstream_at N S (end_at N p))
-    upstream-kept-last n =
+    abbrev u : Values N w.rest p outlook
+    u = lastly.3
+
+    related-is : between_in relations q p ≡ relation N last p
+    related-is = ap (λ r. between_in relations r p) lastly.0 ∙ x.related.each last p w.low x.high (omega (arith, y.low)) y.high
+
+    -- the place and the last member have the same upstream breaker
+    abbrev Alike : Type 0
+    Alike = (prospect_of outlook p).upstream ≡ (prospect_of outlook q).upstream
+
+    alike : Alike → upstream_at N w.rest d ≡ upstream_at N w.rest (end_at N last)
+    alike c = sym u.upstream ∙ c ∙ ap (λ r. (prospect_of outlook r).upstream) lastly.0 ∙ v.upstream
+
+    alike-back : upstream_at N w.rest d ≡ upstream_at N w.rest (end_at N last) → Alike
+    alike-back c = u.upstream ∙ c ∙ sym v.upstream ∙ ap (λ r. (prospect_of outlook r).upstream) (sym lastly.0)
+
+    pub alike-yes : {r : Bool} → r ≡ same_end (prospect_of outlook p).upstream (prospect_of outlook q).upstream → r ≡ true → Alike
+    alike-yes g h = same_end-eq (prospect_of outlook p).upstream (prospect_of outlook q).upstream (sym g ∙ h)
+
+    pub alike-no : {r : Bool} → r ≡ same_end (prospect_of outlook p).upstream (prospect_of outlook q).upstream → r ≡ false → Alike → ⊥
+    alike-no g h c = true≢false (sym (ap (λ e. same_end e (prospect_of outlook q).upstream) c ∙ same_end-refl (prospect_of outlook q).upstream) ∙ sym g ∙ h)
+
+    -- the upstream breaker
+    pub upstream-kept : (between_in relations q p ≡ Behind → Alike → ⊥) → (prospect_of outlook p).upstream ≡ upstream_at N S d
+    upstream-kept n =
         u.upstream
-        ∙ ap end_code (sym (upstream-old N x.accepted w.rest last w.low w.before p y.low y.high (λ r c. n (related-is ∙ r) (codes-back c))))
-        ∙ ap (λ T. end_code (upstream_at N T (end_at N p))) (sym w.is)
+        ∙ sym (upstream-old N x.accepted w.rest last w.low w.before p y.low y.high (λ r c. n (related-is ∙ r) (alike-back c)))
+        ∙ ap (λ T. upstream_at N T d) (sym w.is)
 
-    upstream-taken-last : (ends : List ℕ) → HoldsEnds N ends → related ≡ 1 → get_or outlook p 0 ≡ get_or outlook pending 0 → get_or ends pending 0 ≡ end_code (upstream_at N S (end_at N p))
-    upstream-taken-last ends h r c =
-        ap (λ q. get_or ends q 0) b ∙ h last w.low x.high
-        ∙ ap end_code (sym (upstream-new N x.accepted w.rest last w.low w.before p y.low y.high (sym related-is ∙ r) (codes c)))
-        ∙ ap (λ T. end_code (upstream_at N T (end_at N p))) (sym w.is)
+    pub upstream-taken : between_in relations q p ≡ Behind → Alike → end_at N q ≡ upstream_at N S d
+    upstream-taken r c =
+        ap (end_at N) lastly.0
+        ∙ sym (upstream-new N x.accepted w.rest last w.low w.before p y.low y.high (sym related-is ∙ r) (alike c))
+        ∙ ap (λ T. upstream_at N T d) (sym w.is)
 
-    weight-kept-last : (related ≡ 2 → get_or outlook p 0 ≡ get_or outlook pending 0 → ⊥) → get_or outlook (65 + p) 0 ≡ weight_at N S (end_at N p)
-    weight-kept-last n =
+    -- the weight
+    pub weight-kept : (between_in relations q p ≡ Above → Alike → ⊥) → (prospect_of outlook p).weight ≡ weight_at N S d
+    weight-kept n =
         u.weight
-        ∙ sym (weight-same N x.accepted w.rest last w.low w.before p y.low y.high (λ r c. n (related-is ∙ r) (codes-back c)))
-        ∙ ap (λ T. weight_at N T (end_at N p)) (sym w.is)
+        ∙ sym (weight-same N x.accepted w.rest last w.low w.before p y.low y.high (λ r c. n (related-is ∙ r) (alike-back c)))
+        ∙ ap (λ T. weight_at N T d) (sym w.is)
 
-    weight-taken-last : related ≡ 2 → get_or outlook p 0 ≡ get_or outlook pending 0 → weight_at N S (end_at N p) + get_or outlook (65 + pending) 0 ≡ get_or outlook (65 + p) 0
-    weight-taken-last r c =
-        (λ i. weight_at N (w.is i) (end_at N p) + (ap (λ q. get_or outlook (65 + q) 0) b ∙ v.weight) i)
-        ∙ weight-less N x.accepted w.rest last w.low w.before p y.low y.high (sym related-is ∙ r) (codes c)
+    pub weight-taken : between_in relations q p ≡ Above → Alike → weight_at N S d + (prospect_of outlook q).weight ≡ (prospect_of outlook p).weight
+    weight-taken r c =
+        (λ i. weight_at N (w.is i) d + (ap (λ r. (prospect_of outlook r).weight) lastly.0 ∙ v.weight) i)
+        ∙ weight-less N x.accepted w.rest last w.low w.before p y.low y.high (sym related-is ∙ r) (alike c)
         ∙ sym u.weight
 
-    in-series-kept-last : (related ≡ 1 → ⊥) → (related ≡ 2 → ⊥) → get_or outlook (130 + p) 0 ≡ in_series_at N S (end_at N p)
-    in-series-kept-last m n =
-        u.in-series
-        ∙ sym (in-series-apart N x.accepted w.rest last w.low w.before p y.low y.high (λ r. m (related-is ∙ r)) (λ r. n (related-is ∙ r)))
-        ∙ ap (λ T. in_series_at N T (end_at N p)) (sym w.is)
+    -- the breakers in series
+    pub few : in_series_at N S d ≤ 8
+    few = in-series-few x d
 
-    raised-last : related ≡ 1 → get_or outlook (130 + p) 0 + 1 ≡ in_series_at N S (end_at N p)
-    raised-last r =
+    pub in-series-kept : between_in relations q p ≡ Apart → (prospect_of outlook p).in_series ≡ in_series_at N S d
+    in-series-kept r =
+        let k = sym related-is ∙ r in
+        u.in-series
+        ∙ sym (in-series-apart N x.accepted w.rest last w.low w.before p y.low y.high (λ s. omega (arith, ap nth k, ap nth s)) (λ s. omega (arith, ap nth k, ap nth s)))
+        ∙ ap (λ T. in_series_at N T d) (sym w.is)
+
+    pub raised : between_in relations q p ≡ Behind → (prospect_of outlook p).in_series + 1 ≡ in_series_at N S d
+    raised r =
         ap (λ n. n + 1) u.in-series
         ∙ sym (in-series-behind N x.accepted w.rest last w.low w.before p y.low y.high (sym related-is ∙ r))
-        ∙ ap (λ T. in_series_at N T (end_at N p)) (sym w.is)
+        ∙ ap (λ T. in_series_at N T d) (sym w.is)
 
-    highest-last : related ≡ 2 → max (get_or outlook (130 + p) 0) (get_or outlook (130 + pending) 0 + 1) ≡ in_series_at N S (end_at N p)
-    highest-last r =
-        (λ i. max (u.in-series i) ((ap (λ q. get_or outlook (130 + q) 0) b ∙ v.in-series) i + 1))
-        ∙ sym (in-series-ahead N x.accepted w.rest last w.low w.before p y.low y.high (sym related-is ∙ r))
-        ∙ ap (λ T. in_series_at N T (end_at N p)) (sym w.is)
+    pub highest : between_in relations q p ≡ Above → max (prospect_of outlook p).in_series ((prospect_of outlook q).in_series + 1) ≡ in_series_at N S d
+    highest r =
+        (λ i. max (u.in-series i) ((ap (λ r. (prospect_of outlook r).in_series) lastly.0 ∙ v.in-series) i + 1))
+        ∙ sym (in-series-above N x.accepted w.rest last w.low w.before p y.low y.high (sym related-is ∙ r))
+        ∙ ap (λ T. in_series_at N T d) (sym w.is)
 
-  -- the upstream breaker
-  pub upstream-kept : (related ≡ 1 → get_or outlook p 0 ≡ get_or outlook pending 0 → ⊥) → get_or outlook p 0 ≡ end_code (upstream_at N S (end_at N p))
-  upstream-kept n = ⊎_elim (λ s. s.1.upstream) (λ s. upstream-kept-last s.0 s.1 s.2 s.3 n) y.values
-
-  pub upstream-taken : (ends : List ℕ) → HoldsEnds N ends → related ≡ 1 → get_or outlook p 0 ≡ get_or outlook pending 0 → get_or ends pending 0 ≡ end_code (upstream_at N S (end_at N p))
-  upstream-taken ends h r c = ⊎_elim (λ s. absurd (omega (arith, related-none s.0))) (λ s. upstream-taken-last s.0 s.1 s.2 s.3 ends h r c) y.values
-
-  -- the weight
-  pub weight-kept : (related ≡ 2 → get_or outlook p 0 ≡ get_or outlook pending 0 → ⊥) → get_or outlook (65 + p) 0 ≡ weight_at N S (end_at N p)
-  weight-kept n = ⊎_elim (λ s. s.1.weight) (λ s. weight-kept-last s.0 s.1 s.2 s.3 n) y.values
-
-  pub weight-taken : related ≡ 2 → get_or outlook p 0 ≡ get_or outlook pending 0 → weight_at N S (end_at N p) + get_or outlook (65 + pending) 0 ≡ get_or outlook (65 + p) 0
-  weight-taken r c = ⊎_elim (λ s. absurd (omega (arith, related-none s.0))) (λ s. weight-taken-last s.0 s.1 s.2 s.3 r c) y.values
-
-  -- the breakers in series
-  pub in-series-kept : (related ≡ 1 → ⊥) → (related ≡ 2 → ⊥) → get_or outlook (130 + p) 0 ≡ in_series_at N S (end_at N p)
-  in-series-kept m n = ⊎_elim (λ s. s.1.in-series) (λ s. in-series-kept-last s.0 s.1 s.2 s.3 m n) y.values
-
-  pub raised : related ≡ 1 → (get_or outlook (130 + p) 0 + 1 ≡ in_series_at N S (end_at N p)) × (in_series_at N S (end_at N p) ≤ 8)
-  raised r = (⊎_elim (λ s. absurd (omega (arith, related-none s.0))) (λ s. raised-last s.0 s.1 s.2 s.3 r) y.values, in-series-few x (end_at N p))
-
-  pub highest : related ≡ 2 → (max (get_or outlook (130 + p) 0) (get_or outlook (130 + pending) 0 + 1) ≡ in_series_at N S (end_at N p)) × (in_series_at N S (end_at N p) ≤ 8)
-  highest r = (⊎_elim (λ s. absurd (omega (arith, related-none s.0))) (λ s. highest-last s.0 s.1 s.2 s.3 r) y.values, in-series-few x (end_at N p))
-
-  -- a place that the last member is not related to has the numbers that it had
-  pub values-kept : related ≡ 0 → Values N S p outlook
-  values-kept z = record { upstream = upstream-kept (λ r. absurd (omega arith)); weight = weight-kept (λ r. absurd (omega arith)); in-series = in-series-kept (λ r. omega arith) (λ r. omega arith) }
+    -- a place apart from the last member has the prospect that it had
+    pub values-kept : between_in relations q p ≡ Apart → Values N S p outlook
+    values-kept a = record {
+      upstream = upstream-kept (λ r. absurd (omega (arith, ap nth a, ap nth r)));
+      weight = weight-kept (λ r. absurd (omega (arith, ap nth a, ap nth r)));
+      in-series = in-series-kept a;
+    }

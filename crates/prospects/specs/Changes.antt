@@ -1,35 +1,26 @@
--- Changes of an outlook, which has three numbers of each place, that can be undone: what is changed is kept elsewhere.
-use Rattle.std.specs.Prelude.{ℕ, ◌+◌, ◌≤◌, ◌<◌, ◌≡◌, List, length, get_or}
-use Rattle.relations.specs.Lists.{listed, SameUpTo}
+-- Changes of an outlook that can be undone: what is changed is kept in a row of prospects.
+use Rattle.std.specs.Prelude.{ℕ, ◌+◌, ◌*◌, ◌≤◌, ◌<◌, ◌≡◌, List, get_or}
+use Rattle.starts.specs.declared.Prospect.{Prospect}
+use Rattle.starts.specs.declared.Outlook.{Outlook}
+use Rattle.starts.specs.Outlook.{no_prospect, prospect_of}
 
--- a place has the same numbers in two levels
-abbrev pub Same : List ℕ → List ℕ → ℕ → Type 0
-Same old new p = (get_or new p 0 ≡ get_or old p 0) × (get_or new (65 + p) 0 ≡ get_or old (65 + p) 0) × (get_or new (130 + p) 0 ≡ get_or old (130 + p) 0)
+-- what is kept of a place in a row, of 65
+abbrev pub kept_at : List Prospect → ℕ → ℕ → Prospect
+kept_at rows row p = get_or rows (row * 65 + p) no_prospect
 
--- a place's numbers in an outlook are kept, from `start` on
-abbrev pub Kept : List ℕ → List ℕ → ℕ → ℕ → Type 0
-Kept outlook rows start p = (get_or rows (start + p) 0 ≡ get_or outlook p 0) × (get_or rows (start + 65 + p) 0 ≡ get_or outlook (65 + p) 0) × (get_or rows (start + 130 + p) 0 ≡ get_or outlook (130 + p) 0)
+-- the rows before one are as they were
+abbrev pub SameBefore : ℕ → List Prospect → List Prospect → Type 0
+SameBefore row old new = (k : ℕ) → k < row * 65 → get_or new k no_prospect ≡ get_or old k no_prospect
 
--- The outlook was `old` but for the places that row q lists at the indices from `a` on and before `b`, whose old numbers are kept.
-pub record Changed (lists : List ℕ) (q start a b : ℕ) (old outlook rows : List ℕ) : Type 0 where
-  pub same : (p : ℕ) → p ≤ 64 → ((i : ℕ) → a ≤ i → i < b → listed lists q i ≡ p → ⊥) → Same old outlook p
-  pub kept : (i : ℕ) → a ≤ i → i < b → Kept old rows start (listed lists q i)
+-- a place has the same prospect in two outlooks, and each place has
+abbrev pub Same : Outlook → Outlook → ℕ → Type 0
+Same old new p = prospect_of new p ≡ prospect_of old p
 
--- a place's numbers are written, and no other's
-pub record Put (place n w m : ℕ) (outlook outlook' : List ℕ) : Type 0 where
-  pub long : length outlook' ≡ 195
-  pub upstream : get_or outlook' place 0 ≡ n
-  pub weight : get_or outlook' (65 + place) 0 ≡ w
-  pub in-series : get_or outlook' (130 + place) 0 ≡ m
-  pub others : (p : ℕ) → p ≤ 64 → (p ≡ place → ⊥) → Same outlook outlook' p
+abbrev pub AllSame : Outlook → Outlook → Type 0
+AllSame old new = (p : ℕ) → p ≤ 64 → Same old new p
 
--- a place's numbers are kept, beside what is kept
-pub record Keeping (outlook : List ℕ) (start place : ℕ) (rows rows' : List ℕ) : Type 0 where
-  pub long : length rows' ≡ 3120
-  pub kept : Kept outlook rows' start place
-  pub others : (old : List ℕ) (p : ℕ) → p ≤ 64 → (p ≡ place → ⊥) → Kept old rows start p → Kept old rows' start p
-  pub below : SameUpTo start rows rows'
-
--- what was changed in an outlook of 195 numbers is as it was
-abbrev pub Undone : List ℕ → ℕ → ℕ → ℕ → List ℕ → List ℕ → List ℕ → Type 0
-Undone lists q start end rows outlook outlook' = (old : List ℕ) → length old ≡ 195 → Changed lists q start 1 end old outlook rows → outlook' ≡ old
+-- The outlook was `old` but for the places that a list has at the indices from `a` on and before `b`, whose old prospects are kept in
+-- a row.
+pub record Changed (ps : List ℕ) (row a b : ℕ) (old outlook : Outlook) (rows : List Prospect) : Type 0 where
+  pub same : (p : ℕ) → p ≤ 64 → ((i : ℕ) → a ≤ i → i < b → get_or ps i 0 ≡ p → ⊥) → Same old outlook p
+  pub kept : (i : ℕ) → a ≤ i → i < b → kept_at rows row (get_or ps i 0) ≡ prospect_of old (get_or ps i 0)

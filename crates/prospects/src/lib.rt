@@ -1,241 +1,199 @@
 // What a breaker on each later place would do, with the breakers of the set on the way: the breaker upstream of the place, the
-// weight that would trip it and the most breakers in series with it. These numbers, the set's outlook, change as the walk enters a
+// weight that would trip it and the most breakers in series with it. These prospects, the set's outlook, change as the walk enters a
 // larger set, and what changed is put back as it leaves the set.
-// Where a function takes `pending`, that is the set's last member if the outlook is still without it, and 0 if the outlook is the
-// set's own.
 #![tactic(auto)]
 
-ghost use Rattle.std.specs.Prelude.{◌≡◌, [], ◌∷◌, ◌++◌, map, ◌+◌, ◌*◌, ◌≤◌, length, take};
-ghost use Rattle.model.specs.Sets.{place_numbers, set_total, saving};
-ghost use Rattle.savings.specs.Breakers.{end_at};
-ghost use Rattle.tree.specs.Linked.{end_code};
-ghost use Rattle.outage.specs.Held.{HoldsCustomers};
-ghost use Rattle.sets.specs.Sets.{upstream_at, weight_at, in_series_at};
-ghost use Rattle.marks.specs.Held.{HoldsEnds};
-ghost use Rattle.starts.specs.Outlook.{Outlook};
-ghost use Rattle.relations.specs.Lists.{many, Row};
-ghost use Rattle.prospects.specs.Changes.{Put, Keeping, Undone};
-ghost use Rattle.prospects.specs.Chosen.{Later, Entering, Entered, OwnNow, Tables};
+ghost use Rattle.std.specs.Prelude.{◌≡◌, [], ◌∷◌, ◌++◌, map, ◌+◌, ◌≤◌, length};
 
 use amounts::{Customers, Total, Weight};
-use network::Network;
+use arrayvec::ArrayVec;
+use network::{End, Network};
+use outage::Behind;
+use relations::{Relation, Relations};
+use starts::{Outlook, Prospect};
 
-// The code of the breaker upstream of a place, with the breakers of the set.
-fn upstream_of(
-    net: &Network,
-    relations: &[u64; 4225],
-    ends: &[u64; 65],
-    outlook: &[u64; 195],
-    set: &[u64; 16],
-    size: usize,
-    pending: usize,
-    place: usize,
-) -> u64
-    requires later { Later net.now relations.now outlook.now (take size set.now) pending place }
-    requires coded { HoldsEnds net.now ends.now }
-    ensures { result ≡ end_code (upstream_at net.now (take size set.now)
-        (end_at net.now place)) }
-{
-    let upstream = outlook[place];
-    if relations[pending * 65 + place] == 1 && upstream == outlook[pending] {
-        return ends[pending];
-    }
-    upstream
+// What a walk reads of a file: the network, how its places stand to each other, and the customers behind each line.
+#[derive(Clone, Copy)]
+pub struct Tables<'a> {
+    pub net: &'a Network,
+    pub relations: &'a Relations,
+    pub behind: &'a Behind,
 }
 
-// The weight of a place, with the breakers of the set.
-fn weight_of(
-    net: &Network,
-    relations: &[u64; 4225],
-    outlook: &[u64; 195],
-    set: &[u64; 16],
-    size: usize,
-    pending: usize,
-    place: usize,
-) -> u64
-    requires { Later net.now relations.now outlook.now (take size set.now) pending place }
-    ensures { result ≡ weight_at net.now (take size set.now)
-        (end_at net.now place) }
-{
-    let weight = outlook[65 + place];
-    let above = relations[pending * 65 + place] == 2;
-    if above && outlook[place] == outlook[pending] {
-        return weight - outlook[65 + pending];
-    }
-    weight
+// A set of places, from which the prospects of the later places are read: its members, and an outlook, which is still without the
+// last of them if that is `pending`.
+#[derive(Clone, Copy)]
+pub struct Choice<'a> {
+    pub tables: Tables<'a>,
+    pub outlook: &'a Outlook,
+    pub members: &'a [usize],
+    pub pending: Option<usize>,
 }
 
-// The most breakers in series with a place, with the breakers of the set.
-pub fn in_series_of(
-    net: &Network,
-    relations: &[u64; 4225],
-    outlook: &[u64; 195],
-    set: &[u64; 16],
-    size: usize,
-    pending: usize,
-    place: usize,
-) -> u64
-    requires { Later net.now relations.now outlook.now (take size set.now) pending place }
-    ensures { result ≡ in_series_at net.now (take size set.now)
-        (end_at net.now place) }
-{
-    let in_series = outlook[130 + place];
-    let relation = relations[pending * 65 + place];
-    if relation == 1 {
-        return in_series + 1;
+impl<'a> Choice<'a> {
+    ghost use Rattle.model.specs.Paths.{same_end};
+    ghost use Rattle.model.specs.Sets.{set_total};
+    ghost use Rattle.savings.specs.Breakers.{end_at};
+    ghost use Rattle.outage.specs.Held.{HoldsCustomers};
+    ghost use Rattle.sets.specs.Sets.{upstream_at, weight_at, in_series_at};
+    ghost use Rattle.starts.specs.Outlook.{prospect_of};
+    ghost use Rattle.prospects.specs.Chosen.{LaterIn};
+
+    // Whether the same breaker is upstream of two places, by the outlook.
+    fn is_alike(&self, a: usize, b: usize) -> bool
+        requires { (a ≤ 64) × (b ≤ 64) }
+        ensures { result ≡ same_end (prospect_of self.now.outlook.now a).upstream
+            (prospect_of self.now.outlook.now b).upstream }
+    {
+        self.outlook.of(a).upstream == self.outlook.of(b).upstream
     }
-    if relation == 2 {
-        let through = outlook[130 + pending] + 1;
-        if in_series < through {
-            return through;
+
+    // The breaker upstream of a place.
+    fn upstream(&self, place: usize) -> End
+        requires { LaterIn self.now place }
+        ensures { result ≡ upstream_at self.now.tables.net.now self.now.members.now
+            (end_at self.now.tables.net.now place) }
+    {
+        let upstream = self.outlook.of(place).upstream;
+        let Some(pending) = self.pending else {
+            return upstream
+        };
+        let behind = self.tables.relations.between(pending, place) == Relation::Behind;
+        if behind && self.is_alike(place, pending) {
+            return self.tables.net.place_end(pending);
+        }
+        upstream
+    }
+
+    // The weight of a place.
+    fn weight(&self, place: usize) -> u64
+        requires { LaterIn self.now place }
+        ensures { result ≡ weight_at self.now.tables.net.now self.now.members.now
+            (end_at self.now.tables.net.now place) }
+    {
+        let weight = self.outlook.of(place).weight;
+        let Some(pending) = self.pending else {
+            return weight
+        };
+        let above = self.tables.relations.between(pending, place) == Relation::Above;
+        if above && self.is_alike(place, pending) {
+            return weight - self.outlook.of(pending).weight;
+        }
+        weight
+    }
+
+    // The most breakers in series with a place.
+    pub fn in_series(&self, place: usize) -> u64
+        requires { LaterIn self.now place }
+        ensures { result ≡ in_series_at self.now.tables.net.now self.now.members.now
+            (end_at self.now.tables.net.now place) }
+    {
+        let in_series = self.outlook.of(place).in_series;
+        let Some(pending) = self.pending else {
+            return in_series
+        };
+        match self.tables.relations.between(pending, place) {
+            Relation::Apart => in_series,
+            Relation::Behind => in_series + 1,
+            Relation::Above => in_series.max(self.outlook.of(pending).in_series + 1),
         }
     }
-    in_series
-}
 
-// Writes the numbers of a place.
-fn put(outlook: &mut [u64; 195], place: usize, upstream: u64, weight: u64, series: u64)
-    requires { (length outlook.old ≡ 195) × (place ≤ 64) }
-    ensures { Put place upstream weight series outlook.old outlook.new }
-{
-    outlook[place] = upstream;
-    outlook[65 + place] = weight;
-    outlook[130 + place] = series;
-}
-
-// Keeps the numbers of a place, from `start` on.
-fn keep(outlook: &[u64; 195], rows: &mut [u64; 3120], start: usize, place: usize)
-    requires { (length rows.old ≡ 3120) × (start + 195 ≤ 3120) × (place ≤ 64) }
-    ensures { Keeping outlook.now start place rows.old rows.new }
-{
-    rows[start + place] = outlook[place];
-    rows[start + 65 + place] = outlook[65 + place];
-    rows[start + 130 + place] = outlook[130 + place];
-}
-
-// Makes the outlook of the set without its last member the set's own: only the numbers of the places that the member is related to
-// change, and they are kept in row `size`.
-fn enter(
-    net: &Network,
-    relations: &[u64; 4225],
-    ends: &[u64; 65],
-    lists: &[u64; 4225],
-    outlook: &mut [u64; 195],
-    rows: &mut [u64; 3120],
-    set: &[u64; 16],
-    size: usize,
-    last: usize,
-)
-    requires { Entering net.now relations.now ends.now lists.now
-        outlook.old rows.old (take size set.now) size last }
-    ensures { Entered net.now lists.now (take size set.now) size last
-        outlook.old outlook.new rows.old rows.new }
-{
-    let start = size * 195;
-    let row = last * 65;
-    for i in 1..lists[row] as usize + 1 {
-        let place = lists[row + i] as usize;
-        let upstream = upstream_of(net, relations, ends, outlook, set, size, last, place);
-        let weight = weight_of(net, relations, outlook, set, size, last, place);
-        let in_series = in_series_of(net, relations, outlook, set, size, last, place);
-        keep(outlook, rows, start, place);
-        put(outlook, place, upstream, weight, in_series);
+    // How much the total of the set falls with one more place.
+    pub fn fall(&self, place: usize) -> Total
+        requires { LaterIn self.now place × HoldsCustomers self.now.tables.net.now self.now.tables.behind.now }
+        ensures { result.0 + set_total self.now.tables.net.now (self.now.members.now ++ (place ∷ []))
+            ≡ set_total self.now.tables.net.now self.now.members.now }
+    {
+        let behind = self.tables.behind;
+        let upstream = self.upstream(place).line;
+        let line = self.tables.net.place_line(place);
+        let spared = behind.customers(upstream) - behind.customers(line);
+        Weight(self.weight(place)) * Customers(spared)
     }
 }
 
-// The outlook becomes the set's own, if it is still that of the set without its last member, which is then `pending`.
-pub fn enter_once(
-    net: &Network,
-    relations: &[u64; 4225],
-    ends: &[u64; 65],
-    lists: &[u64; 4225],
-    outlook: &mut [u64; 195],
-    rows: &mut [u64; 3120],
-    set: &[u64; 16],
-    size: usize,
-    pending: usize,
-)
-    requires { (pending ≡ 0 → ⊥)
-        → Entering net.now relations.now ends.now lists.now
-        outlook.old rows.old (take size set.now) size pending }
-    ensures { OwnNow net.now lists.now (take size set.now) size pending
-        outlook.old outlook.new rows.old rows.new }
-{
-    if pending != 0 {
-        enter(
-            net, relations, ends, lists, outlook, rows, set, size, pending,
-        );
+// The prospects of the places with a set that a walk is in, and in row `n` of `kept`, 65 long, those that changed when its part
+// of `n` members was entered, as they were before.
+#[derive(Drop)]
+pub struct Prospects {
+    pub outlook: Outlook,
+    kept: [Prospect; 1040],
+    ghost rows: { length kept ≡ 1040 },
+}
+
+impl Prospects {
+    ghost use Rattle.relations.specs.Lists.{Row};
+    ghost use Rattle.relations.specs.Related.{later_in, row_count};
+    ghost use Rattle.prospects.specs.Chosen.{IsUnfilled, Entering, Entered, Undone};
+
+    // Room for the prospects, and for 16 sets on the way.
+    pub fn new() -> Prospects
+        ensures { IsUnfilled result }
+    {
+        Prospects {
+            outlook: Outlook::new(),
+            kept: [Prospect::NONE; 1040],
+        }
+    }
+
+    // Makes the outlook of a set without its last member the set's own: only the prospects of the places that the member is related
+    // to change.
+    pub fn enter(&mut self, tables: &Tables, members: &[usize], last: usize)
+        requires { Entering tables.now.net.now tables.now.relations.now members.now (length members.now) last self.old }
+        ensures { Entered tables.now.net.now tables.now.relations.now members.now (length members.now) last self.old self.new }
+    {
+        let row = members.len() * 65;
+        for place in tables.relations.later(last) {
+            let choice = Choice {
+                tables: *tables,
+                outlook: &self.outlook,
+                members,
+                pending: Some(last),
+            };
+            let prospect = Prospect {
+                upstream: choice.upstream(*place),
+                weight: choice.weight(*place),
+                in_series: choice.in_series(*place),
+            };
+            self.kept[row + *place] = self.outlook.of(*place);
+            self.outlook.set(*place, prospect);
+        }
+    }
+
+    // Undoes what entering a set of `size` members changed.
+    pub fn leave(&mut self, relations: &Relations, size: usize, last: usize)
+        requires { (size ≤ 15) × (1 ≤ last) × (last ≤ row_count relations.now) × Row (later_in relations.now last) last 65 }
+        ensures { Undone (later_in relations.now last) size self.old self.new }
+    {
+        let row = size * 65;
+        for place in relations.later(last) {
+            let before = self.kept[row + *place];
+            self.outlook.set(*place, before);
+        }
     }
 }
 
-// Undoes what entering a set of `size` members changed in the outlook.
-pub fn leave(
-    lists: &[u64; 4225],
-    outlook: &mut [u64; 195],
-    rows: &[u64; 3120],
-    size: usize,
-    last: usize,
-)
-    requires { (length outlook.old ≡ 195) × (size ≤ 15) × Row lists.now last (many lists.now last) 65 }
-    ensures { Undone lists.now last (size * 195) (many lists.now last + 1)
-        rows.now outlook.old outlook.new }
-{
-    let start = size * 195;
-    let row = last * 65;
-    for i in 1..lists[row] as usize + 1 {
-        let place = lists[row + i] as usize;
-        put(
-            outlook,
-            place,
-            rows[start + place],
-            rows[start + 65 + place],
-            rows[start + 130 + place],
-        );
-    }
-}
+impl<'a> Tables<'a> {
+    ghost use Rattle.model.specs.Sets.{place_numbers, saving};
+    ghost use Rattle.starts.specs.Outlook.{HoldsOutlook};
+    ghost use Rattle.prospects.specs.Chosen.{HoldsTables};
 
-// How much the total of the set falls with one more place.
-pub fn fall(
-    net: &Network,
-    relations: &[u64; 4225],
-    ends: &[u64; 65],
-    sums: &[u64; 768],
-    outlook: &[u64; 195],
-    set: &[u64; 16],
-    size: usize,
-    pending: usize,
-    place: usize,
-) -> Total
-    requires { Later net.now relations.now outlook.now (take size set.now) pending place
-        × HoldsEnds net.now ends.now × HoldsCustomers net.now sums.now }
-    ensures { result.0 + set_total net.now (take size set.now ++ (place ∷ []))
-        ≡ set_total net.now (take size set.now) }
-{
-    let upstream = upstream_of(net, relations, ends, outlook, set, size, pending, place) as usize;
-    let line = net.place_line(place);
-    let spared = sums[(upstream + 1) / 2 - 1] - sums[line - 1];
-    let weight = weight_of(net, relations, outlook, set, size, pending, place);
-    amounts::times(Weight::new(weight), Customers::new(spared))
-}
-
-// The saving of each place: how much the file's total falls with its breaker alone.
-pub fn savings_of(
-    net: &Network,
-    relations: &[u64; 4225],
-    ends: &[u64; 65],
-    sums: &[u64; 768],
-    outlook: &[u64; 195],
-    savings: &mut [u64; 64],
-)
-    requires tables { Tables net.now relations.now ends.now sums.now }
-    requires start { Outlook net.now [] 1 outlook.now }
-    requires room { length savings.old ≡ 64 }
-    ensures long { length savings.new ≡ 64 }
-    ensures rows { take (length net.now.places) savings.new
-        ≡ map (λ p. saving net.now p) (place_numbers net.now) }
-{
-    let none = [0u64; 16];
-    for i in 0..net.place_count() {
-        savings[i] = fall(net, relations, ends, sums, outlook, &none, 0, 0, i + 1).number();
+    // The saving of each place: how much the file's total falls with its breaker alone.
+    pub fn savings(&self, start: &Outlook) -> ArrayVec<u64, 64>
+        requires { HoldsTables self.now × HoldsOutlook self.now.net.now [] 1 start.now }
+        ensures { result.items ≡ map (λ p. saving self.now.net.now p) (place_numbers self.now.net.now) }
+    {
+        let none = Choice {
+            tables: *self,
+            outlook: start,
+            members: &[],
+            pending: None,
+        };
+        let mut savings = ArrayVec::new();
+        for place in 1..self.net.place_count() + 1 {
+            savings.push(u64::from(none.fall(place)));
+        }
+        savings
     }
 }

@@ -12,7 +12,7 @@ ghost use Rattle.theory.specs.Labels.{label_of, Labelled};
 ghost use Rattle.network.specs.There.{StationThere, LineThere};
 ghost use Rattle.radial.specs.Stations.{Marked};
 
-use network::Network;
+use network::{End, Network, Side};
 
 // The labels before a line is passed: each station's is its number.
 fn numbered() -> [u64; 512]
@@ -45,7 +45,12 @@ fn both_closed(net: &Network, line: usize) -> bool
     ensures { result ≡ (not (is_open net.now (end1 line))
         && not (is_open net.now (end2 line))) }
 {
-    !net.is_open(line, 1) && !net.is_open(line, 2)
+    let one = End {
+        line,
+        side: Side::One,
+    };
+    let two = one.other();
+    !net.is_open(one) && !net.is_open(two)
 }
 
 // Rule 6: labels of which stations have one where a path joins them. None where a path returns to its start.
@@ -58,8 +63,13 @@ pub fn label_paths(net: &Network) -> Option<[u64; 512]>
     let mut labels = numbered();
     for line in 1..net.line_count() + 1 {
         if both_closed(net, line) {
-            let x = labels[end_rules::station_of(net, line, 1) - 1];
-            let y = labels[end_rules::station_of(net, line, 2) - 1];
+            let one = End {
+                line,
+                side: Side::One,
+            };
+            let two = one.other();
+            let x = labels[end_rules::station_of(net, one) - 1];
+            let y = labels[end_rules::station_of(net, two) - 1];
             let joined = x == y;
             if joined {
                 return None;

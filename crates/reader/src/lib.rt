@@ -5,12 +5,12 @@ ghost use Rattle.std.specs.Prelude.{◌≡◌, true, false, ◌+◌, ◌≤◌, 
 ghost use Rattle.model.specs.Answer.{says};
 ghost use Rattle.model.specs.Format.{records_of};
 ghost use Rattle.model.specs.Network.{value, head_of, station_of, line_of, place_of, comes_after, well_placed, network_of};
-ghost use Rattle.network.specs.View.{role_number, state_number, side_number, station_of_held, line_of_held, place_of_held};
-ghost use Rattle.network.specs.There.{EndThere};
+ghost use Rattle.network.specs.View.{role_number, state_number, station_of_held, line_of_held, place_of_held};
+ghost use Rattle.network.specs.There.{LineThere};
 ghost use Rattle.reader.specs.Reading.{head_says, left_says, says_of, first_head, more_stations, more_lines, more_places, last_place};
 
 use model::{Head, Refusal};
-use network::{Line, Network, PLACES, Place, Role, Side, State, Station};
+use network::{End, Line, Network, PLACES, Place, Role, Side, State, Station};
 use ranges::Kind;
 use records::Records;
 
@@ -111,12 +111,16 @@ fn comes_last(places: &[Place], place: &Place) -> bool
 
 // Whether a place may follow those of a network: it is not the 65th, comes after them and is on a plain end.
 fn well_placed(net: &Network, place: &Place) -> bool
-    requires { EndThere net.now place.now.line (side_number place.now.side) }
+    requires { LineThere net.now place.now.line }
     ensures { result ≡ well_placed net.now.lines (length net.now.places)
         (last_place net.now.places) (place_of_held place.now) }
 {
     let room = net.place_count() < PLACES;
-    room && comes_last(net.places(), place) && net.is_plain(place.line, place.side.number())
+    room && comes_last(net.places(), place)
+        && net.is_plain(End {
+            line: place.line,
+            side: place.side,
+        })
 }
 
 // Reads the head, which is the first record.

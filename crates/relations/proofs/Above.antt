@@ -1,39 +1,54 @@
 -- The places above a place of an accepted file: the next of them, and those above that one.
-use Prim.Native.Nat.{ℕ, ◌+◌, ◌*◌, ◌-◌, ◌≤◌, ◌<◌}
+use Rattle.std.specs.Prelude.{None, Some}
+use Prim.Native.Nat.{ℕ, ◌≤◌, ◌<◌}
 use mathlib.Core.Path.{◌≡◌, refl, sym, ap, ◌∙◌}
-use mathlib.Core.Bool.{Bool, true, false, ◌&&◌, ◌||◌, true≢false}
-use mathlib.Core.Logic.{◌≢◌, ⊎_elim}
+use mathlib.Core.Bool.{Bool, true, false, not, ◌&&◌, ◌||◌, true≢false}
+use mathlib.Core.Logic.{⊎_elim}
 use mathlib.Core.List.{List, [], ◌∷◌}
 use native.Mathlib.Decide.{ℕ_discrete}
 use native.Mathlib.Omega.{arith}
 use lib.Dec.{eqb}
-use lib.ListN.{length, get_or}
-use borrow.Author.Tests.{eq-eqb, ne_eqb, eqb-true, eqb-false}
+use lib.ListN.{length}
+use borrow.Author.Tests.{eq-eqb, ne_eqb}
 use Rattle.model.specs.Lists.{any, first_or}
 use Rattle.model.specs.Network.{Network}
-use Rattle.model.specs.Paths.{line, End, same_end}
+use Rattle.model.specs.Paths.{End, same_end}
 use Rattle.savings.specs.Facts.{or_cases, same_end-eq, same_end-refl}
 use Rattle.savings.specs.First.{this}
 use Rattle.savings.specs.Breakers.{end_at}
-use Rattle.theory.specs.Behind.{far}
 use Rattle.theory.specs.Best.{Accepted, place-closed}
-use Rattle.network.specs.There.{end_in}
+use Rattle.network.specs.There.{LineThere}
 use Rattle.tree.specs.Outwards.{near_end, feeder}
+use Rattle.tree.specs.Linked.{LineHeld}
+use Rattle.tree.specs.Held.{near_in, feeder_in, HoldsTree}
+use Rattle.tree.specs.declared.Tree.{Tree}
 use Rattle.sets.specs.Ways.{has, Way, has-onward}
 use Rattle.sets.specs.Onward.{onward, onward-first, way-onward}
 use Rattle.sets.specs.Stops.{first_place}
 use Rattle.sets.proofs.Stops.{passes-stop}
 use Rattle.sets.specs.Apart.{place_ends, ends-apart}
-use Rattle.marks.specs.Held.{place_on, HoldsPlaces}
-use Rattle.paths.specs.Held.{HoldsFeeders, HoldsFirsts}
-use Rattle.relations.specs.Related.{relation, HoldsRelations}
-use Rattle.paths.specs.Meets.{or_else, mark_at, path_beyond}
+use Rattle.marks.specs.Held.{optional, place_on, HoldsPlaces}
+use Rattle.marks.specs.declared.Marks.{Marks}
+use Rattle.paths.specs.Held.{first_in, first_beyond_in, HoldsFirsts}
+use Rattle.paths.specs.Meets.{path_beyond}
+use Rattle.paths.specs.declared.Firsts.{Firsts}
+use Rattle.relations.specs.declared.Relation.TheVariants.{Apart}
+use Rattle.relations.specs.declared.Relations.{Relations}
+use Rattle.relations.specs.Related.{relation, between_in}
 use Rattle.relations.specs.Climb.{is_above, place_above, Among, noted}
 use Rattle.marks.proofs.Marking.{place-fits}
 use Rattle.marks.proofs.PlaceOn.{Unplaced, Placed, place-or-none, listed-number, listed-place, no-end-unplaced}
-use Rattle.paths.proofs.Passing.{near-own, beyond-is, route-is, feeder-high}
+use Rattle.paths.proofs.Passing.{beyond-is, route-is, feeder-high, fed-none, fed-some}
 use Rattle.paths.proofs.FarEnds.{first-beyond}
 use Rattle.relations.proofs.Climbing.{from, from_is, Climb}
+
+pub not-true : (b : Bool) → not b ≡ true → b ≡ false
+not-true true h = absurd (true≢false (sym h))
+not-true false h = refl
+
+pub not-false : (b : Bool) → not b ≡ false → b ≡ true
+not-false true h = refl
+not-false false h = absurd (true≢false h)
 
 -- the path onward from an end of a path is shorter
 way-shorter : (up : End → List End) (q : End) (es : List End) → Way up es → has q es ≡ true → length (up q) < length es
@@ -83,65 +98,69 @@ module _ (N : Network) (a : Accepted N) where
               ∙ ap (λ b. b || is_above N q (place_on N s)) (same_place q (place_on N s) i (g.low, g.high))
               ∙ sym (from_is (is_above N) (place_on N s) q g.low)
 
-  -- the line of a place, as it is read
-  pub place-line : (p l : ℕ) → Among (length N.places) p → l ≡ (end_at N p).line → (1 ≤ l) × (l ≤ length N.lines) × (length N.lines ≤ 768)
-  place-line p l i e = let x = place-fits N a.read p i.0 i.1 in (omega (arith, x.line.low), omega (arith, x.line.high), omega (arith, a.read.line_count, a.read.head.lines.high))
+  -- ── the first place on the path onward from a place ──
+  module _ (t : Tree) (f : Firsts) (o : HoldsTree N t) (h : HoldsFirsts N f) (p : ℕ) (i : Among (length N.places) p) where
+    abbrev e : End
+    e = end_at N p
 
-  pub place_end : (p l s : ℕ) → l ≡ (end_at N p).line → s ≡ (end_at N p).side → place_on N (first_place (place_ends N) (onward N (end_in l s))) ≡ place_above N p
-  place_end p l s e f = λ k. place_on N (first_place (place_ends N) (onward N (record { line = e k; side = f k })))
+    abbrev l : ℕ
+    l = (end_at N p).line
 
-  -- ── the first place on the path onward from an end, by the buffers ──
-  module _ (sides feeders marks firsts : List ℕ) (f : HoldsFeeders N sides feeders) (m : HoldsPlaces N marks) (h : HoldsFirsts N firsts) (l s : ℕ) (u : 1 ≤ l) (v : l ≤ length N.lines) where
-    near-is : get_or sides (l - 1) 0 ≡ (near_end N l).side
-    near-is = f.nears l u v
+    pub line-there : LineThere N l
+    line-there = let x = place-fits N a.read p i.0 i.1 in record { low = x.line.low; high = x.line.high }
 
-    path-first : onward N (end_in l s) ≡ this (same_end (near_end N l) (end_in l s)) (path_beyond N (feeder N l)) (near_end N l ∷ path_beyond N (feeder N l))
-    path-first = onward-first N (end_in l s) (near_end N l) (path_beyond N (feeder N l)) (route-is N a.read a.rules l u v)
+    pub line-held : LineHeld l
+    line-held = record { low = line-there.low; high = omega (arith, line-there.high, o.lines) }
 
-    -- the end is the far end
-    pub above-far : eqb s (get_or sides (l - 1) 0) ≡ false → get_or firsts (l - 1) 0 ≡ place_on N (first_place (place_ends N) (onward N (end_in l s)))
+    near-is : near_in t l ≡ near_end N l
+    near-is = o.nears l line-there
+
+    path-first : onward N e ≡ this (same_end (near_end N l) e) (path_beyond N (feeder N l)) (near_end N l ∷ path_beyond N (feeder N l))
+    path-first = onward-first N e (near_end N l) (path_beyond N (feeder N l)) (route-is N a.read a.rules l line-there.low line-there.high)
+
+    -- the place is on the far end
+    pub above-far : same_end e (near_in t l) ≡ false → first_in f l ≡ optional (place_above N p)
     above-far d =
-        h l u v
-        ∙ ap (λ es. place_on N (first_place (place_ends N) es))
-        (sym (path-first ∙ ap (λ b. this b (path_beyond N (feeder N l)) (near_end N l ∷ path_beyond N (feeder N l))) (other (same_end (near_end N l) (end_in l s)) refl) ∙ route-is N a.read a.rules l u v))
+        h l line-there
+        ∙ ap (λ es. optional (place_on N (first_place (place_ends N) es)))
+        (sym (path-first ∙ ap (λ b. this b (path_beyond N (feeder N l)) (near_end N l ∷ path_beyond N (feeder N l))) (other (same_end (near_end N l) e) refl) ∙ route-is N a.read a.rules l line-there.low line-there.high))
       where
-        other : (b : Bool) → same_end (near_end N l) (end_in l s) ≡ b → b ≡ false
-        other true e = absurd (eqb-false s (get_or sides (l - 1) 0) d (sym (near-is ∙ ap (λ (x : End). x.side) (same_end-eq (near_end N l) (end_in l s) e))))
-        other false e = refl
+        other : (b : Bool) → same_end (near_end N l) e ≡ b → b ≡ false
+        other true g = absurd (true≢false (sym (ap (same_end e) (near-is ∙ same_end-eq (near_end N l) e g) ∙ same_end-refl e) ∙ d))
+        other false g = refl
 
-    -- the end is the near end
-    module _ (e : eqb s (get_or sides (l - 1) 0) ≡ true) where
-      near-path : onward N (end_in l s) ≡ path_beyond N (get_or feeders (l - 1) 0)
+    -- the place is on the near end
+    module _ (d : same_end e (near_in t l) ≡ true) where
+      near-path : onward N e ≡ path_beyond N (feeder N l)
       near-path =
           path-first
-          ∙ ap (λ b. this b (path_beyond N (feeder N l)) (near_end N l ∷ path_beyond N (feeder N l))) (λ k. eq-eqb (near_end N l).line l (near-own N a.read a.rules l u v).0 k && eq-eqb (near_end N l).side s (sym (eqb-true s (get_or sides (l - 1) 0) e ∙ near-is)) k)
-          ∙ ap (path_beyond N) (sym (f.feeds l u v))
+          ∙ ap (λ b. this b (path_beyond N (feeder N l)) (near_end N l ∷ path_beyond N (feeder N l)))
+          (ap (λ x. same_end x e) (sym (same_end-eq e (near_in t l) d ∙ near-is)) ∙ same_end-refl e)
 
-      pub above-hv : get_or feeders (l - 1) 0 ≡ 0 → 0 ≡ place_on N (first_place (place_ends N) (onward N (end_in l s)))
+      pub above-hv : feeder_in t l ≡ None → None ≡ optional (place_above N p)
       unfolding first_or
-      above-hv z = sym (ap (λ es. place_on N (first_place (place_ends N) es)) (near-path ∙ ap (path_beyond N) z) ∙ (no-end-unplaced N a.read).0)
+      above-hv z =
+          sym (ap (λ es. optional (place_on N (first_place (place_ends N) es))) (near-path ∙ ap (path_beyond N) (fed-none N l (sym (o.feeds l line-there) ∙ z)))
+          ∙ ap optional (no-end-unplaced N a.read).0)
 
-      module _ (z : get_or feeders (l - 1) 0 ≢ 0) where
-        abbrev k : ℕ
-        k = get_or feeders (l - 1) 0
+      module _ (k : ℕ) (z : feeder_in t l ≡ Some k) where
+        fed : (feeder N l ≡ k) × (1 ≤ feeder N l)
+        fed = fed-some N l k (sym (o.feeds l line-there) ∙ z)
 
-        feeder-low : 1 ≤ k
-        feeder-low = omega (arith, z)
+        feeder-there : LineThere N k
+        feeder-there = record { low = omega (arith, fed); high = omega (arith, fed, feeder-high N a.read a.rules l line-there.low line-there.high) }
 
-        feeder-most : k ≤ length N.lines
-        feeder-most = omega (arith, f.feeds l u v, feeder-high N a.read a.rules l u v)
+        pub feeder-held : LineHeld k
+        feeder-held = record { low = feeder-there.low; high = omega (arith, feeder-there.high, o.lines) }
 
-        pub feeder-in : (1 ≤ k) × (k ≤ length N.lines)
-        feeder-in = (feeder-low, feeder-most)
-
-        pub above-fed : (r : ℕ) → r ≡ or_else (mark_at marks (far (near_end N k))) (get_or firsts (k - 1) 0) → r ≡ place_on N (first_place (place_ends N) (onward N (end_in l s)))
-        above-fed r q =
-            q
-            ∙ first-beyond N a.read a.rules marks firsts m h k feeder-low feeder-most
-            ∙ ap (λ es. place_on N (first_place (place_ends N) es)) (beyond-is N k feeder-low ∙ sym near-path)
+        pub above-fed : (places : Marks) → HoldsPlaces N places → first_beyond_in f t places k ≡ optional (place_above N p)
+        above-fed places m =
+            first-beyond N a.read a.rules t places f o m h k feeder-there
+            ∙ ap (λ es. optional (place_on N (first_place (place_ends N) es))) (beyond-is N k feeder-there.low ∙ sym (near-path ∙ ap (path_beyond N) fed.0))
 
   -- ── the relations ──
-  pub relations-all : (rel : List ℕ) → ((k : ℕ) → k ≤ 64 → get_or rel k 0 ≡ 0)
-      → ((q p : ℕ) → Among (length N.places) q → Among (length N.places) p → get_or rel (q * 65 + p) 0 ≡ noted (is_above N q p) (is_above N p q) 0) → HoldsRelations N rel
+  pub relations-all : (r : Relations)
+      → ((q p : ℕ) → Among (length N.places) q → Among (length N.places) p → between_in r q p ≡ noted (is_above N q p) (is_above N p q) Apart)
+      → (q p : ℕ) → 1 ≤ q → q ≤ length N.places → 1 ≤ p → p ≤ length N.places → between_in r q p ≡ relation N q p
   unfolding relation
-  relations-all rel z h = record { none = z; each = λ q p i j k l. h q p (i, j) (k, l) }
+  relations-all r h q p i j k l = h q p (i, j) (k, l)

@@ -1,4 +1,6 @@
--- Relations of numbered places, noted by climbing from each place to those above it. Row q of the relations has 65 numbers.
+-- Relations of numbered places, noted by climbing from each place to those above it.
+use Rattle.std.specs.Prelude.{Option, None, Some}
+use Rattle.std.proofs.lemmas.Option.{none-some}
 use Prim.Native.Nat.{ℕ, zero, suc, ◌+◌, ◌*◌, ◌≤◌, ◌<◌}
 use mathlib.Core.Path.{◌≡◌, refl, sym, ap, ◌∙◌}
 use mathlib.Core.Bool.{Bool, true, false, not, ◌&&◌, ◌||◌, true≢false}
@@ -10,7 +12,24 @@ use lib.Dec.{eqb, ltb}
 use lib.ListN.{length, get_or, set, length-set}
 use lib.Seq.{get_or-set_same, get_or-set_other}
 use borrow.Author.Tests.{eq-eqb, ne_eqb, lt-ltb, le-ltb, eqb-true}
-use Rattle.relations.specs.Climb.{Among, noted, Noted, Kept}
+use Rattle.marks.specs.Held.{optional}
+use Rattle.relations.specs.declared.Relation.{Relation}
+use Rattle.relations.specs.declared.Relation.TheVariants.{Apart, Behind, Above}
+use Rattle.relations.specs.Lists.{relation_at}
+use Rattle.relations.specs.Climb.{Among, noted, Noted}
+
+-- the number that there is, 0 where there is none
+abbrev pub number : Option ℕ → ℕ
+number None = 0
+number (Some a) = a
+
+pub number-is : (a : ℕ) → number (optional a) ≡ a
+number-is zero = refl
+number-is (suc a) = refl
+
+pub some-low : (a : ℕ) → Some a ≡ optional a → 1 ≤ a
+some-low zero h = absurd (none-some 0 (sym h))
+some-low (suc a) h = omega arith
 
 -- q is a, or above a; none is where a is 0
 abbrev pub from : (ℕ → ℕ → Bool) → ℕ → ℕ → Bool
@@ -35,53 +54,47 @@ two (no a) _ = no (λ x. a x.0)
 
 module _ (n : ℕ) (small : n ≤ 64) (p : ℕ) (i : Among n p) where
   -- tests that agree
-  noted-same : (s t : ℕ → Bool) (old new : List ℕ) → ((q : ℕ) → Among n q → s q ≡ t q) → Noted n s p old new → Noted n t p old new
-  noted-same s t old new e h q r a b = h q r a b ∙ (λ j. noted (eqb r p && e q a j) (eqb q p && e r b j) (get_or old (q * 65 + r) 0))
+  noted-same : (s t : ℕ → Bool) (old new : List Relation) → ((q : ℕ) → Among n q → s q ≡ t q) → Noted n s p old new → Noted n t p old new
+  noted-same s t old new e h q r a b = h q r a b ∙ (λ j. noted (eqb r p && e q a j) (eqb q p && e r b j) (relation_at old q r))
 
-  noted-none : (old : List ℕ) → Noted n (λ q. false) p old old
-  noted-none old q r a b = λ j. noted (none (eqb r p) j) (none (eqb q p) j) (get_or old (q * 65 + r) 0)
+  noted-none : (old : List Relation) → Noted n (λ q. false) p old old
+  noted-none old q r a b = λ j. noted (none (eqb r p) j) (none (eqb q p) j) (relation_at old q r)
     where
       none : (b : Bool) → false ≡ (b && false)
       none true = refl
       none false = refl
 
   -- one place more
-  noted_more : (test : ℕ → Bool) (a : ℕ) → Among n a → a ≢ p → (old new : List ℕ) → length new ≡ 4225 → Noted n test p old new
-      → Noted n (λ q. eqb q a || test q) p old (set (set new (a * 65 + p) 1) (p * 65 + a) 2)
+  noted_more : (test : ℕ → Bool) (a : ℕ) → Among n a → a ≢ p → (old new : List Relation) → length new ≡ 4225 → Noted n test p old new
+      → Noted n (λ q. eqb q a || test q) p old (set (set new (a * 65 + p) Behind) (p * 65 + a) Above)
   noted_more test a j d old new l h q r b c = go (two (ℕ_discrete q a) (ℕ_discrete r p)) (two (ℕ_discrete q p) (ℕ_discrete r a))
     where
-      was : ℕ
-      was = get_or old (q * 65 + r) 0
+      was : Relation
+      was = relation_at old q r
 
-      first : List ℕ
-      first = set new (a * 65 + p) 1
+      first : List Relation
+      first = set new (a * 65 + p) Behind
 
       -- where the first test passes, the second does not
       apart : (x y t : Bool) → (x ≡ true → y ≡ false) → (x && t) ≡ (x && (y || t))
       apart true y t e = ap (λ z. z || t) (sym (e refl))
       apart false y t e = refl
 
-      go : Dec ((q ≡ a) × (r ≡ p)) → Dec ((q ≡ p) × (r ≡ a)) → get_or (set first (p * 65 + a) 2) (q * 65 + r) 0 ≡ noted (eqb r p && (eqb q a || test q)) (eqb q p && (eqb r a || test r)) was
+      go : Dec ((q ≡ a) × (r ≡ p)) → Dec ((q ≡ p) × (r ≡ a)) → relation_at (set first (p * 65 + a) Above) q r ≡ noted (eqb r p && (eqb q a || test q)) (eqb q p && (eqb r a || test r)) was
       go (yes e) _ =
-          get_or-set_other first (p * 65 + a) (q * 65 + r) 2 0 (omega (arith, e.0, e.1))
-          ∙ ap (λ k. get_or first k 0) {x = q * 65 + r} {y = a * 65 + p} (omega (arith, e.0, e.1))
-          ∙ get_or-set_same new (a * 65 + p) 1 0 (omega arith)
+          get_or-set_other first (p * 65 + a) (q * 65 + r) Above Apart (omega (arith, e.0, e.1))
+          ∙ ap (λ k. get_or first k Apart) {x = q * 65 + r} {y = a * 65 + p} (omega (arith, e.0, e.1))
+          ∙ get_or-set_same new (a * 65 + p) Behind Apart (omega arith)
           ∙ (λ k. noted (sym (eq-eqb r p e.1) k && (sym (eq-eqb q a e.0) k || test q)) (eqb q p && (eqb r a || test r)) was)
       go (no u) (yes e) =
-          ap (λ k. get_or (set first (p * 65 + a) 2) k 0) {x = q * 65 + r} {y = p * 65 + a} (omega (arith, e.0, e.1))
-          ∙ get_or-set_same first (p * 65 + a) 2 0 (let m : length first ≡ 4225 = simp length-set l in omega arith)
+          ap (λ k. get_or (set first (p * 65 + a) Above) k Apart) {x = q * 65 + r} {y = p * 65 + a} (omega (arith, e.0, e.1))
+          ∙ get_or-set_same first (p * 65 + a) Above Apart (let m : length first ≡ 4225 = simp length-set l in omega arith)
           ∙ (λ k. noted (sym (ne_eqb r p (λ z. d (sym e.1 ∙ z))) k && (eqb q a || test q)) (sym (eq-eqb q p e.0) k && (sym (eq-eqb r a e.1) k || test r)) was)
       go (no u) (no v) =
-          get_or-set_other first (p * 65 + a) (q * 65 + r) 2 0 (λ z. v (omega (arith, z), omega (arith, z)))
-          ∙ get_or-set_other new (a * 65 + p) (q * 65 + r) 1 0 (λ z. u (omega (arith, z), omega (arith, z)))
+          get_or-set_other first (p * 65 + a) (q * 65 + r) Above Apart (λ z. v (omega (arith, z), omega (arith, z)))
+          ∙ get_or-set_other new (a * 65 + p) (q * 65 + r) Behind Apart (λ z. u (omega (arith, z), omega (arith, z)))
           ∙ h q r b c
           ∙ (λ k. noted (apart (eqb r p) (eqb q a) (test q) (λ x. ne_eqb q a (λ y. u (y, eqb-true r p x))) k) (apart (eqb q p) (eqb r a) (test r) (λ x. ne_eqb r a (λ y. v (eqb-true q p x, y))) k) was)
-
-  kept_more : (a : ℕ) → Among n a → (old new : List ℕ) → Kept old new → Kept old (set (set new (a * 65 + p) 1) (p * 65 + a) 2)
-  kept_more a j old new h k b =
-      get_or-set_other (set new (a * 65 + p) 1) (p * 65 + a) k 2 0 (λ z. omega (arith, z))
-      ∙ get_or-set_other new (a * 65 + p) k 1 0 (λ z. omega (arith, z))
-      ∙ h k b
 
 ltb_next : (x p : ℕ) → ltb x (p + 1) ≡ (eqb x p || ltb x p)
 ltb_next x p = go (ℕ_discrete x p) (dec_lt x p)
@@ -92,7 +105,7 @@ ltb_next x p = go (ℕ_discrete x p) (dec_lt x p)
     go (no e) (no l) = le-ltb x (p + 1) (omega arith) ∙ (λ k. sym (ne_eqb x p e) k || sym (le-ltb x p (omega arith)) k)
 
 -- two tests f and g that exclude each other, noted for one number more
-more : (f g x y s t : Bool) → (f ≡ true → g ≡ false) → noted (x && f) (y && g) (noted (f && s) (g && t) 0) ≡ noted (f && (x || s)) (g && (y || t)) 0
+more : (f g x y s t : Bool) → (f ≡ true → g ≡ false) → noted (x && f) (y && g) (noted (f && s) (g && t) Apart) ≡ noted (f && (x || s)) (g && (y || t)) Apart
 more true true x y s t e = absurd (true≢false (e refl))
 more true false true y s t e = refl
 more true false false true s t e = refl
@@ -111,16 +124,15 @@ more false false false false s t e = refl
 abbrev pub passed : (ℕ → ℕ → Bool) → ℕ → ℕ → ℕ → Bool
 passed above p a q = above q p && not (from above a q)
 
-pub record Climbed (n : ℕ) (above : ℕ → ℕ → Bool) (p a : ℕ) (old new : List ℕ) : Type 0 where
+pub record Climbed (n : ℕ) (above : ℕ → ℕ → Bool) (p a : ℕ) (old new : List Relation) : Type 0 where
   pub high : a ≤ n
   pub on : 1 ≤ a → above a p ≡ true
   pub noted : Noted n (passed above p a) p old new
-  pub kept : Kept old new
   pub long : length new ≡ 4225
 
 -- the relations of the places below k to those above them are noted
-abbrev pub Related : ℕ → (ℕ → ℕ → Bool) → ℕ → List ℕ → Type 0
-Related n above k rel = (q r : ℕ) → Among n q → Among n r → get_or rel (q * 65 + r) 0 ≡ noted (above q r && ltb r k) (above r q && ltb q k) 0
+abbrev pub Related : ℕ → (ℕ → ℕ → Bool) → ℕ → List Relation → Type 0
+Related n above k rel = (q r : ℕ) → Among n q → Among n r → relation_at rel q r ≡ noted (above q r && ltb r k) (above r q && ltb q k) Apart
 
 -- how far the climb has to go
 abbrev pub level : (ℕ → ℕ) → ℕ → ℕ
@@ -156,12 +168,11 @@ module _ (n : ℕ) (above : ℕ → ℕ → Bool) (next height : ℕ → ℕ) (c
       go (suc a) (suc b) e i f = let x = f (omega (arith, e)) in omega (arith, x, ap height e)
 
   module _ (small : n ≤ 64) (p : ℕ) (i : Among n p) where
-    pub climb-start : (old : List ℕ) → length old ≡ 4225 → Climbed n above p (next p) old old
+    pub climb-start : (old : List Relation) → length old ≡ 4225 → Climbed n above p (next p) old old
     climb-start old l = record {
       high = c.high p i;
       on = next-above p i;
       noted = noted-same n small p i (λ q. false) (passed above p (next p)) old old (λ q j. none (above q p) ∙ ap (λ b. above q p && not b) (c.chain q p j i)) (noted-none n small p i old);
-      kept = λ k h. refl;
       long = l;
     }
       where
@@ -169,13 +180,12 @@ module _ (n : ℕ) (above : ℕ → ℕ → Bool) (next height : ℕ → ℕ) (c
         none true = refl
         none false = refl
 
-    pub climb-next : (a : ℕ) (old new : List ℕ) → 1 ≤ a → Climbed n above p a old new → Climbed n above p (next a) old (set (set new (a * 65 + p) 1) (p * 65 + a) 2)
+    pub climb-next : (a : ℕ) (old new : List Relation) → 1 ≤ a → Climbed n above p a old new → Climbed n above p (next a) old (set (set new (a * 65 + p) Behind) (p * 65 + a) Above)
     climb-next a old new h m = record {
       high = c.high a j;
       on = λ g. c.over (next a) a p (g, c.high a j) j i (next-above a j g) (m.on h);
-      noted = noted-same n small p i (λ q. eqb q a || passed above p a q) (passed above p (next a)) old (set (set new (a * 65 + p) 1) (p * 65 + a) 2) (λ q g. agree q g (ℕ_discrete q a))
+      noted = noted-same n small p i (λ q. eqb q a || passed above p a q) (passed above p (next a)) old (set (set new (a * 65 + p) Behind) (p * 65 + a) Above) (λ q g. agree q g (ℕ_discrete q a))
           (noted_more n small p i (passed above p a) a j other old new m.long m.noted);
-      kept = kept_more n small p i a j old new m.kept;
       long = simp length-set m.long;
     }
       where
@@ -193,7 +203,7 @@ module _ (n : ℕ) (above : ℕ → ℕ → Bool) (next height : ℕ → ℕ) (c
             ap (λ b. b || passed above p a q) (ne_eqb q a e)
             ∙ ap (λ b. above q p && not b) (from_is above a q h ∙ ap (λ b. b || above q a) (ne_eqb q a e) ∙ c.chain q a g j)
 
-    pub climb-end : (old new : List ℕ) → Climbed n above p 0 old new → Noted n (λ q. above q p) p old new
+    pub climb-end : (old new : List Relation) → Climbed n above p 0 old new → Noted n (λ q. above q p) p old new
     climb-end old new m = noted-same n small p i (passed above p 0) (λ q. above q p) old new (λ q j. all (above q p)) m.noted
       where
         all : (b : Bool) → (b && not false) ≡ b
@@ -201,19 +211,19 @@ module _ (n : ℕ) (above : ℕ → ℕ → Bool) (next height : ℕ → ℕ) (c
         all false = refl
 
   -- ── all climbs ──
-  pub related-start : (rel : List ℕ) → ((k : ℕ) → get_or rel k 0 ≡ 0) → Related n above 1 rel
-  related-start rel z q r i j = z (q * 65 + r) ∙ (λ k. noted (none (above q r) r j k) (none (above r q) q i k) 0)
+  pub related-start : (rel : List Relation) → ((k : ℕ) → get_or rel k Apart ≡ Apart) → Related n above 1 rel
+  related-start rel z q r i j = z (q * 65 + r) ∙ (λ k. noted (none (above q r) r j k) (none (above r q) q i k) Apart)
     where
       none : (b : Bool) (m : ℕ) → Among n m → false ≡ (b && ltb m 1)
       none true m g = sym (le-ltb m 1 g.0)
       none false m g = refl
 
-  pub related-next : (p : ℕ) → Among n p → (old new : List ℕ) → Related n above p old → Noted n (λ q. above q p) p old new → Related n above (p + 1) new
+  pub related-next : (p : ℕ) → Among n p → (old new : List Relation) → Related n above p old → Noted n (λ q. above q p) p old new → Related n above (p + 1) new
   related-next p i old new h m q r a b =
       m q r a b
       ∙ (λ k. noted (at r (above q) k) (at q (above r) k) (h q r a b k))
       ∙ more (above q r) (above r q) (eqb r p) (eqb q p) (ltb r p) (ltb q p) (not-both q r a b)
-      ∙ (λ k. noted (above q r && sym (ltb_next r p) k) (above r q && sym (ltb_next q p) k) 0)
+      ∙ (λ k. noted (above q r && sym (ltb_next r p) k) (above r q && sym (ltb_next q p) k) Apart)
     where
       at : (x : ℕ) (f : ℕ → Bool) → (eqb x p && f p) ≡ (eqb x p && f x)
       at x f = go (eqb x p) refl
@@ -222,8 +232,8 @@ module _ (n : ℕ) (above : ℕ → ℕ → Bool) (next height : ℕ → ℕ) (c
           go true e = ap f (sym (eqb-true x p e))
           go false e = refl
 
-  pub related-all : (k : ℕ) → n < k → (rel : List ℕ) → Related n above k rel → (q r : ℕ) → Among n q → Among n r → get_or rel (q * 65 + r) 0 ≡ noted (above q r) (above r q) 0
-  related-all k l rel h q r i j = h q r i j ∙ (λ x. noted (all (above q r) r j x) (all (above r q) q i x) 0)
+  pub related-all : (k : ℕ) → n < k → (rel : List Relation) → Related n above k rel → (q r : ℕ) → Among n q → Among n r → relation_at rel q r ≡ noted (above q r) (above r q) Apart
+  related-all k l rel h q r i j = h q r i j ∙ (λ x. noted (all (above q r) r j x) (all (above r q) q i x) Apart)
     where
       all : (b : Bool) (m : ℕ) → Among n m → (b && ltb m k) ≡ b
       all true m g = lt-ltb m k (omega (arith, g.1))

@@ -1,6 +1,5 @@
--- The places above a place, those on the path onward from it: how the relations to them are noted. Row q of the relations has 65
--- numbers, at p how p stands to q.
-use Rattle.std.specs.Prelude.{ℕ, ◌+◌, ◌*◌, ◌≤◌, ◌≡◌, Bool, ◌&&◌, List, eqb, get_or}
+-- The places above a place, those on the path onward from it: how the relations to them are noted.
+use Rattle.std.specs.Prelude.{ℕ, ◌≤◌, ◌≡◌, Bool, ◌&&◌, List, eqb}
 use Rattle.model.specs.Network.{Network}
 use Rattle.savings.specs.First.{this}
 use Rattle.savings.specs.Breakers.{end_at}
@@ -9,6 +8,9 @@ use Rattle.sets.specs.Onward.{onward}
 use Rattle.sets.specs.Stops.{first_place}
 use Rattle.sets.specs.Apart.{place_ends}
 use Rattle.marks.specs.Held.{place_on}
+use Rattle.relations.specs.declared.Relation.{Relation}
+use Rattle.relations.specs.declared.Relation.TheVariants.{Behind, Above}
+use Rattle.relations.specs.Lists.{relation_at}
 
 -- place q is above place p
 abbrev pub is_above : Network → ℕ → ℕ → Bool
@@ -22,14 +24,10 @@ place_above N p = place_on N (first_place (place_ends N) (onward N (end_at N p))
 abbrev pub Among : ℕ → ℕ → Type 0
 Among n p = (1 ≤ p) × (p ≤ n)
 
--- 1 where the first test passes, 2 where the second does, else what was there
-abbrev pub noted : Bool → Bool → ℕ → ℕ
-noted a b old = this a 1 (this b 2 old)
+-- behind where the first test passes, above where the second does, else what was there
+abbrev pub noted : Bool → Bool → Relation → Relation
+noted a b old = this a Behind (this b Above old)
 
 -- from one state of the relations to another: those of p to the places that pass a test are noted
-abbrev pub Noted : ℕ → (ℕ → Bool) → ℕ → List ℕ → List ℕ → Type 0
-Noted n test p old new = (q r : ℕ) → Among n q → Among n r → get_or new (q * 65 + r) 0 ≡ noted (eqb r p && test q) (eqb q p && test r) (get_or old (q * 65 + r) 0)
-
--- row 0 stays
-abbrev pub Kept : List ℕ → List ℕ → Type 0
-Kept old new = (k : ℕ) → k ≤ 64 → get_or new k 0 ≡ get_or old k 0
+abbrev pub Noted : ℕ → (ℕ → Bool) → ℕ → List Relation → List Relation → Type 0
+Noted n test p old new = (q r : ℕ) → Among n q → Among n r → relation_at new q r ≡ noted (eqb r p && test q) (eqb q p && test r) (relation_at old q r)

@@ -1,37 +1,31 @@
--- Lists of the later places that each place is related to: row q, from q * 65 on, has how many they are, then these places, rising.
-use Rattle.std.specs.Prelude.{ℕ, ◌+◌, ◌*◌, ◌≤◌, ◌<◌, ◌≡◌, List, get_or}
+-- Lists of the later places that each place is related to.
+use Rattle.std.specs.Prelude.{ℕ, ◌+◌, ◌*◌, ◌<◌, ◌≡◌, Bool, true, false, List, length, get_or}
+use Rattle.relations.specs.declared.Relation.{Relation}
+use Rattle.relations.specs.declared.Relation.TheVariants.{Apart, Behind, Above}
 
--- how many places row q has
-abbrev pub many : List ℕ → ℕ → ℕ
-many lists q = get_or lists (q * 65) 0
+abbrev pub is_related : Relation → Bool
+is_related Apart = false
+is_related Behind = true
+is_related Above = true
 
--- the i-th of them
-abbrev pub listed : List ℕ → ℕ → ℕ → ℕ
-listed lists q i = get_or lists (q * 65 + i) 0
+-- how place p stands to place q: at p in row q, of 65
+abbrev pub relation_at : List Relation → ℕ → ℕ → Relation
+relation_at between q p = get_or between (q * 65 + p) Apart
 
--- the first m places of row q are after q and before `end`, and rise
-pub record Row (lists : List ℕ) (q m end : ℕ) : Type 0 where
-  pub few : m + q < end
-  pub later : (i : ℕ) → 1 ≤ i → i ≤ m → (q < listed lists q i) × (listed lists q i < end)
-  pub rising : (i j : ℕ) → 1 ≤ i → i < j → j ≤ m → listed lists q i < listed lists q j
+-- places after q and before `end`, rising
+pub record Row (ps : List ℕ) (q end : ℕ) : Type 0 where
+  pub few : length ps + q < end
+  pub later : (i : ℕ) → i < length ps → (q < get_or ps i 0) × (get_or ps i 0 < end)
+  pub rising : (i j : ℕ) → i < j → j < length ps → get_or ps i 0 < get_or ps j 0
 
 -- place p is among them
-pub record InRow (lists : List ℕ) (q m p : ℕ) : Type 0 where
+pub record InRow (ps : List ℕ) (p : ℕ) : Type 0 where
   pub at : ℕ
-  pub low : 1 ≤ at
-  pub high : at ≤ m
-  pub is : listed lists q at ≡ p
+  pub high : at < length ps
+  pub is : get_or ps at 0 ≡ p
 
 -- they are the places after q and before `end` that q is related to
-pub record Listed (relations lists : List ℕ) (q m end : ℕ) : Type 0 where
-  pub row : Row lists q m end
-  pub only : (i : ℕ) → 1 ≤ i → i ≤ m → get_or relations (q * 65 + listed lists q i) 0 ≡ 0 → ⊥
-  pub all : (p : ℕ) → q < p → p < end → (get_or relations (q * 65 + p) 0 ≡ 0 → ⊥) → InRow lists q m p
-
--- each place up to `count` has its row
-abbrev pub HoldsLists : List ℕ → List ℕ → ℕ → Type 0
-HoldsLists relations lists count = (q : ℕ) → 1 ≤ q → q ≤ count → Listed relations lists q (many lists q) (count + 1)
-
--- the first n numbers are as they were
-abbrev pub SameUpTo : ℕ → List ℕ → List ℕ → Type 0
-SameUpTo n old new = (k : ℕ) → k < n → get_or new k 0 ≡ get_or old k 0
+pub record Listed (between : List Relation) (q end : ℕ) (ps : List ℕ) : Type 0 where
+  pub row : Row ps q end
+  pub only : (i : ℕ) → i < length ps → relation_at between q (get_or ps i 0) ≡ Apart → ⊥
+  pub all : (p : ℕ) → q < p → p < end → (relation_at between q p ≡ Apart → ⊥) → InRow ps p

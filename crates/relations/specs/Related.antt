@@ -1,20 +1,48 @@
--- How places stand to each other, in a buffer.
-use Rattle.std.specs.Prelude.{ℕ, ◌+◌, ◌*◌, ◌≤◌, ◌≡◌, true, false, List, length, get_or}
+-- How places stand to each other, and which later places each is related to, as the table of the relations has it.
+use Rattle.std.specs.Prelude.{ℕ, ◌+◌, ◌-◌, ◌≤◌, ◌≡◌, true, false, List, [], length, get_or, map}
 use Rattle.model.specs.Network.{Network}
 use Rattle.savings.specs.Breakers.{end_at}
+use Rattle.theory.specs.Best.{Accepted}
 use Rattle.sets.specs.Ways.{has}
 use Rattle.sets.specs.Onward.{onward}
+use Rattle.tree.specs.Held.{HoldsTree}
+use Rattle.marks.specs.Held.{HoldsPlaces}
+use Rattle.paths.specs.Held.{HoldsFirsts}
+use Rattle.relations.specs.declared.Relation.{Relation}
+use Rattle.relations.specs.declared.Relation.TheVariants.{Apart, Behind, Above}
+use Rattle.relations.specs.declared.Relations.{Relations}
+use Rattle.relations.specs.declared.Routes.{Routes}
+use Rattle.relations.specs.Lists.{relation_at, Listed}
 
--- how place p stands to place q: 1 behind it, 2 on the path onward from it, 0 neither
-unfoldable pub relation : Network → ℕ → ℕ → ℕ
+-- the tree, the places and the first places are those of an accepted network
+pub record HoldsRoutes (r : Routes) : Type 0 where
+  pub accepted : Accepted r.net.now
+  pub tree : HoldsTree r.net.now r.tree.now
+  pub places : HoldsPlaces r.net.now r.places.now
+  pub firsts : HoldsFirsts r.net.now r.firsts.now
+
+-- how place p stands to place q
+unfoldable pub relation : Network → ℕ → ℕ → Relation
 unfolding onward
 relation N q p =
     elim (has (end_at N q) (onward N (end_at N p))) [
-      | true ↦ 1
-      | false ↦ elim (has (end_at N p) (onward N (end_at N q))) [ true ↦ 2 | false ↦ 0 ]
+      | true ↦ Behind
+      | false ↦ elim (has (end_at N p) (onward N (end_at N q))) [ true ↦ Above | false ↦ Apart ]
     ]
 
--- The relations of all places, 65 numbers a row: row q has at p how p stands to q. Row 0, of no place, has 0 everywhere.
-pub record HoldsRelations (N : Network) (relations : List ℕ) : Type 0 where
-  pub none : (p : ℕ) → p ≤ 64 → get_or relations p 0 ≡ 0
-  pub each : (q p : ℕ) → 1 ≤ q → q ≤ length N.places → 1 ≤ p → p ≤ length N.places → get_or relations (q * 65 + p) 0 ≡ relation N q p
+-- how place p stands to place q in the table
+abbrev pub between_in : Relations → ℕ → ℕ → Relation
+between_in r q p = relation_at r.between q p
+
+-- the later places that the table lists for place q, and for how many places it has such a list
+abbrev pub later_in : Relations → ℕ → List ℕ
+later_in r q = get_or (map (λ row. row.items) r.later.items) (q - 1) []
+
+abbrev pub row_count : Relations → ℕ
+row_count r = length r.later.items
+
+-- the table has the relations of all places, and for each place those after it that are not apart from it
+pub record HoldsRelations (N : Network) (r : Relations) : Type 0 where
+  pub each : (q p : ℕ) → 1 ≤ q → q ≤ length N.places → 1 ≤ p → p ≤ length N.places → between_in r q p ≡ relation N q p
+  pub rows : row_count r ≡ length N.places
+  pub later : (q : ℕ) → 1 ≤ q → q ≤ length N.places → Listed r.between q (length N.places + 1) (later_in r q)

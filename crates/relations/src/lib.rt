@@ -1,143 +1,153 @@
 // How the places stand to each other, and lists of the later places that each place is related to.
 #![tactic(auto)]
 
-ghost use Rattle.std.specs.Prelude.{◌≡◌, not, eqb, length, get_or, ℕ, ◌+◌, ◌*◌, ◌-◌, ◌≤◌};
-ghost use Rattle.savings.specs.Breakers.{end_at};
-ghost use Rattle.theory.specs.Best.{Accepted};
-ghost use Rattle.relations.specs.Related.{HoldsRelations};
-ghost use Rattle.marks.specs.Held.{HoldsPlaces};
-ghost use Rattle.paths.specs.Held.{HoldsFeeders, HoldsFirsts};
-ghost use Rattle.relations.specs.Lists.{HoldsLists, many, Listed, SameUpTo};
-ghost use Rattle.relations.specs.Climb.{is_above, place_above, Among, Noted, Kept};
+ghost use Rattle.std.specs.Prelude.{ℕ, ◌≡◌, ◌+◌, ◌≤◌, not, length};
+ghost use Rattle.model.specs.Paths.{same_end};
+ghost use Rattle.network.specs.There.{PlaceThere};
+ghost use Rattle.tree.specs.Linked.{LineHeld};
+ghost use Rattle.tree.specs.Held.{near_in};
+ghost use Rattle.marks.specs.Held.{optional};
+ghost use Rattle.relations.specs.declared.Relation.TheVariants.{Apart};
+ghost use Rattle.relations.specs.Related.{HoldsRoutes, HoldsRelations, between_in, later_in, row_count};
+ghost use Rattle.relations.specs.Lists.{is_related, Listed};
+ghost use Rattle.relations.specs.Climb.{is_above, place_above, Noted};
 
-use network::Network;
+use arrayvec::ArrayVec;
+use marks::Marks;
+use network::{End, Network};
+use paths::Firsts;
+use tree::Tree;
 
-// Whether an end, 1 or 2, of a line is its far end.
-fn is_far(sides: &[u64; 768], line: usize, side: usize) -> bool
-    requires { (1 ≤ line) × (line ≤ 768) }
-    ensures { result ≡ not (eqb side (get_or sides.now (line - 1) 0)) }
-{
-    side != sides[line - 1] as usize
+// How a place stands to another: behind it, where the other is on its path to the HV station; above it, where it is on the other's
+// path; or apart.
+#[derive(Clone, Copy, Debug, Default, PartialEq, Eq)]
+pub enum Relation {
+    #[default]
+    Apart,
+    Behind,
+    Above,
 }
 
-// The line of a place.
-fn line_of(net: &Network, place: usize) -> usize
-    requires { Accepted net.now × Among (length net.now.places) place }
-    ensures is { result ≡ (end_at net.now place).line }
-    ensures there { (1 ≤ result) × (result ≤ length net.now.lines) × (result ≤ 768) }
-{
-    net.place_line(place)
-}
-
-// The next place above a place, the first that the path onward from it meets; 0 if there is none.
-fn above_of(
-    net: &Network,
-    sides: &[u64; 768],
-    feeders: &[u64; 768],
-    marks: &[u64; 1537],
-    firsts: &[u64; 768],
-    place: usize,
-) -> usize
-    requires { Accepted net.now × HoldsFeeders net.now sides.now feeders.now
-        × HoldsPlaces net.now marks.now × HoldsFirsts net.now firsts.now
-        × Among (length net.now.places) place }
-    ensures { result ≡ place_above net.now place }
-{
-    let line = line_of(net, place);
-    if is_far(sides, line, net.place_side(place)) {
-        return firsts[line - 1] as usize;
-    }
-    let feeder = feeders[line - 1] as usize;
-    if feeder == 0 {
-        return 0;
-    }
-    paths::first_beyond(net, sides, marks, firsts, feeder) as usize
-}
-
-// The relations between a place and those above it: it is behind each of them, and each is on the path onward from it.
-fn climb(
-    net: &Network,
-    sides: &[u64; 768],
-    feeders: &[u64; 768],
-    marks: &[u64; 1537],
-    firsts: &[u64; 768],
-    relations: &mut [u64; 4225],
-    place: usize,
-)
-    requires { Accepted net.now × HoldsFeeders net.now sides.now feeders.now
-        × HoldsPlaces net.now marks.now × HoldsFirsts net.now firsts.now
-        × Among (length net.now.places) place × (length relations.old ≡ 4225) }
-    ensures { Noted (length net.now.places) (λ q. is_above net.now q place)
-        place relations.old relations.new × Kept relations.old relations.new
-        × (length relations.new ≡ 4225) }
-{
-    let mut above = above_of(net, sides, feeders, marks, firsts, place);
-    while above != 0 {
-        relations[above * 65 + place] = 1;
-        relations[place * 65 + above] = 2;
-        above = above_of(net, sides, feeders, marks, firsts, above);
+impl Relation {
+    // Whether one of the places is behind the other.
+    fn is_related(self) -> bool
+        ensures { result ≡ is_related self }
+    {
+        self != Relation::Apart
     }
 }
 
-// No relation is noted.
-fn no_relations(relations: &mut [u64; 4225])
-    ensures { ((k : ℕ) → get_or relations.new k 0 ≡ 0) × (length relations.new ≡ 4225) }
-{
-    *relations = [0; 4225];
+// What says which places a path to the HV station meets: the network, its tree, the places on the ends of its lines, and the first
+// place on the path of each line.
+#[derive(Clone, Copy)]
+pub struct Routes<'a> {
+    pub net: &'a Network,
+    pub tree: &'a Tree,
+    pub places: &'a Marks,
+    pub firsts: &'a Firsts,
 }
 
-// How each place stands to each other.
-pub fn fill_relations(
-    net: &Network,
-    sides: &[u64; 768],
-    feeders: &[u64; 768],
-    marks: &[u64; 1537],
-    firsts: &[u64; 768],
-    relations: &mut [u64; 4225],
-)
-    requires { Accepted net.now × HoldsFeeders net.now sides.now feeders.now
-        × HoldsPlaces net.now marks.now × HoldsFirsts net.now firsts.now }
-    ensures { HoldsRelations net.now relations.new
-        × (length relations.new ≡ 4225) }
-{
-    no_relations(relations);
-    for place in 1..net.place_count() + 1 {
-        climb(net, sides, feeders, marks, firsts, relations, place);
+impl<'a> Routes<'a> {
+    // Whether an end is the far end of its line.
+    fn is_far(&self, end: End) -> bool
+        requires { LineHeld end.line }
+        ensures { result ≡ not (same_end end (near_in self.now.tree.now end.line)) }
+    {
+        end != self.tree.near(end.line)
+    }
+
+    // The next place above a place, the first that the path onward from it meets.
+    fn above(&self, place: usize) -> Option<usize>
+        requires { HoldsRoutes self.now × PlaceThere self.now.net.now place }
+        ensures { result ≡ optional (place_above self.now.net.now place) }
+    {
+        let end = self.net.place_end(place);
+        if self.is_far(end) {
+            return self.firsts.first(end.line);
+        }
+        let feeder = self.tree.feeder(end.line)?;
+        self.firsts.first_beyond(self.tree, self.places, feeder)
     }
 }
 
-// Row `q`: how many of the places after it are related to it, then these places.
-fn fill_list(relations: &[u64; 4225], count: usize, q: usize, lists: &mut [u64; 4225])
-    requires { (count ≤ 64) × (1 ≤ q) × (q ≤ count) × (length lists.old ≡ 4225) }
-    ensures { Listed relations.now lists.new q (many lists.new q) (count + 1)
-        × SameUpTo (q * 65) lists.old lists.new × (length lists.new ≡ 4225) }
-{
-    let row = q * 65;
-    let mut found = 0;
-    for p in q + 1..count + 1 {
-        let related = relations[row + p] != 0;
-        if related {
-            found += 1;
-            lists[row + found] = p as u64;
+// How each place stands to each other, and which later places each is related to. Row `q` of `between`, 65 long, has at `p` how place
+// `p` stands to place `q`; row `q - 1` of `later` has the places that place `q` is related to.
+#[derive(Drop)]
+pub struct Relations {
+    between: [Relation; 4225],
+    later: ArrayVec<ArrayVec<usize, 64>, 64>,
+}
+
+impl Relations {
+    // Room for the relations of 64 places.
+    pub fn new() -> Relations
+        ensures apart { (q p : ℕ) → between_in result q p ≡ Apart }
+        ensures none { row_count result ≡ 0 }
+    {
+        Relations {
+            between: [Relation::Apart; 4225],
+            later: ArrayVec::new(),
         }
     }
-    lists[row] = found as u64;
-}
 
-// No place is listed yet.
-fn no_lists(lists: &mut [u64; 4225])
-    ensures { length lists.new ≡ 4225 }
-{
-    *lists = [0; 4225];
-}
+    // How place `p` stands to place `q`.
+    pub fn between(&self, q: usize, p: usize) -> Relation
+        requires { (q ≤ 64) × (p ≤ 64) }
+        ensures { result ≡ between_in self.now q p }
+    {
+        self.between[q * 65 + p]
+    }
 
-// The rows of all places.
-pub fn fill_lists(relations: &[u64; 4225], count: usize, lists: &mut [u64; 4225])
-    requires { count ≤ 64 }
-    ensures { HoldsLists relations.now lists.new count }
-{
-    no_lists(lists);
-    for q in 1..count + 1 {
-        fill_list(relations, count, q, lists);
+    // The places after place `q` that it is related to, in rising order.
+    pub fn later(&self, q: usize) -> &[usize]
+        requires { (1 ≤ q) × (q ≤ row_count self.now) }
+        ensures { result.now ≡ later_in self.now q }
+    {
+        self.later[q - 1].as_slice()
+    }
+
+    // The relations between a place and those above it.
+    fn climb(&mut self, routes: &Routes, place: usize)
+        requires { HoldsRoutes routes.now × PlaceThere routes.now.net.now place }
+        ensures { Noted (length routes.now.net.now.places) (λ q. is_above routes.now.net.now q place)
+            place self.old.between self.new.between }
+    {
+        let mut next = routes.above(place);
+        while let Some(above) = next {
+            self.between[above * 65 + place] = Relation::Behind;
+            self.between[place * 65 + above] = Relation::Above;
+            next = routes.above(above);
+        }
+    }
+
+    // The places after place `q` that it is related to, of `count` places.
+    fn row(&self, q: usize, count: usize) -> ArrayVec<usize, 64>
+        requires { (count ≤ 64) × (1 ≤ q) × (q ≤ count) }
+        ensures { Listed self.now.between q (count + 1) result.items }
+    {
+        let mut row = ArrayVec::new();
+        for p in q + 1..count + 1 {
+            if self.between(q, p).is_related() {
+                row.push(p);
+            }
+        }
+        row
+    }
+
+    // How the places of a network stand to each other.
+    pub fn relate(&mut self, routes: &Routes)
+        requires { HoldsRoutes routes.now }
+        ensures { HoldsRelations routes.now.net.now self.new }
+    {
+        let count = routes.net.place_count();
+        self.between = [Relation::Apart; 4225];
+        for place in 1..count + 1 {
+            self.climb(routes, place);
+        }
+        self.later.clear();
+        for place in 1..count + 1 {
+            let row = self.row(place, count);
+            self.later.push(row);
+        }
     }
 }

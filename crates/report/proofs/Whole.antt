@@ -1,6 +1,7 @@
 -- The parts of a report, one behind another.
-use Rattle.std.specs.Prelude.{◌≡◌, ℕ, ◌≤◌, ◌<◌, ◌++◌, length, take}
-use Rattle.std.proofs.Common.{sym, ap, ◌∙◌, subst, arith, append_assoc, length-take-le, get_or-take}
+use Rattle.std.specs.Prelude.{◌≡◌, ℕ, ◌≤◌, ◌++◌, List, length}
+use Rattle.std.proofs.Common.{sym, ap, ◌∙◌, subst, arith, append_assoc}
+use lib.Seq.{take_all}
 use mathlib.Core.List.{Sublistᴰ}
 use Rattle.model.specs.Network.{Network}
 use Rattle.model.specs.Sets.{place_numbers}
@@ -20,23 +21,20 @@ module _ (N : Network) (p : Plan) (a : Planned N p) where
       let r = search-answered N a.accepted in
       omega (arith, ap (λ (f : Found). f.best) a.found, r.has_total, set_total-size N (read-sized N a.accepted.read) (search N).members)
 
-  pub counted : length (take p.count p.set) ≡ p.count
-  counted = length-take-le p.count p.set (omega (arith, a.long, a.few))
+  abbrev S : List ℕ
+  S = p.members.items
 
   -- the members of the search are places
-  pub are-places : ArePlaces N (take p.count p.set)
+  pub are-places : ArePlaces N S
   are-places i h =
-      let k : i < p.count = omega (arith, counted) in
-      let r = member-place N p.set p.count (omega (arith, a.long, a.few))
-      (subst (λ S. Sublistᴰ S (place_numbers N)) (sym (ap (λ (f : Found). f.members) a.found)) (search-answered N a.accepted).is_allowed.places) i k in
-      let e = get_or-take p.count p.set i 0 k in
-      record { low = omega (arith, r.0, e); high = omega (arith, r.1, e) }
+      let all = sym (take_all (length S) S (omega arith)) in
+      let r = member-place N S (length S) (omega arith)
+      (subst (λ T. Sublistᴰ T (place_numbers N)) (sym (ap (λ (f : Found). f.members) a.found) ∙ all) (search-answered N a.accepted).is_allowed.places) i h in
+      record { low = r.0; high = r.1 }
 
-  pub plan-is : outcome_line p.spent p.visits p.count p.total.0 ++ member_lines N (take p.count p.set) ≡ plan_text N
+  pub plan-is : outcome_line p.spent p.visits (length S) p.total.0 ++ member_lines N S ≡ plan_text N
   unfolding plan_text line_c
-  plan-is =
-      ap (λ (n : ℕ). outcome_line p.spent p.visits n p.total.0 ++ member_lines N (take p.count p.set)) (sym counted)
-      ∙ ap (λ (f : Found). line_c f ++ member_lines N f.members) a.found
+  plan-is = ap (λ (f : Found). line_c f ++ member_lines N f.members) a.found
 
 -- the report ends in what the search found
 pub report-is : (N : Network) → (line_a N ++ fault_lines N) ++ plan_text N ≡ report_text N

@@ -5,6 +5,7 @@ use Rattle.model.specs.Outage.{total}
 use Rattle.model.specs.Walk.{search}
 use Rattle.theory.specs.Best.{Accepted}
 use Rattle.outage.specs.Held.{HoldsImpacts}
+use Rattle.outage.specs.declared.Impacts.{Impacts}
 use Rattle.network.specs.There.{PlaceThere}
 use Rattle.amounts.specs.declared.Total.{Total}
 use Rattle.planning.specs.declared.Plan.{Plan}
@@ -17,12 +18,11 @@ ArePlaces N members = (i : ℕ) → i < length members → PlaceThere N (get_or 
 -- the search of an accepted network
 pub record Planned (N : Network) (plan : Plan) : Type 0 where
   pub accepted : Accepted N
-  pub few : plan.count ≤ 16
-  pub long : length plan.set ≡ 16
+  pub few : length plan.members.items ≤ 16
   pub found : plan_found plan ≡ search N
 
 -- the impacts, the total and the search of an accepted network
-pub record Answered (N : Network) (impacts : List ℕ) (amount : Total) (plan : Plan) : Type 0 where
+pub record Answered (N : Network) (impacts : Impacts) (amount : Total) (plan : Plan) : Type 0 where
   pub planned : Planned N plan
   pub holds : HoldsImpacts N impacts
   pub is_total : amount.0 ≡ total N

@@ -1,339 +1,404 @@
 -- The loop over the later places.
-use Prim.Native.Nat.{ℕ, ◌+◌, ◌*◌, ◌-◌, ◌≤◌, ◌<◌}
+use Prim.Native.Nat.{ℕ, ◌+◌, ◌-◌, ◌≤◌}
 use mathlib.Core.Path.{◌≡◌, refl, sym, ap, ◌∙◌, subst}
 use mathlib.Core.Bool.{true}
 use mathlib.Core.Logic.{◌⊎◌, inl, inr, ⊎_elim}
 use mathlib.Core.List.{List, [], ◌∷◌, ◌++◌}
-use native.Mathlib.Numerals.{add-one}
 use native.Mathlib.Omega.{arith}
-use lib.ListN.{length, length-set, set, take}
-use lib.Seq.{take-suc-set, take-set-le, take-take}
+use lib.ListN.{length, length-append, take, get_or}
+use Rattle.arrayvec.specs.ArrayVec.{ArrayVec}
+use lib.Seq.{take-append_seam}
+use Rattle.std.specs.Prelude.{Option, None, Some}
+use Rattle.std.proofs.lemmas.Option.{none-some}
 use Rattle.model.specs.Network.{Network}
 use Rattle.model.specs.Outage.{total}
 use Rattle.model.specs.Sets.{with_breakers, allowed}
 use Rattle.model.specs.Walk.{Found}
 use Rattle.walks.specs.Runs.{on-true}
 use Rattle.theory.specs.Series.{series-rule, allowed-means}
-use Rattle.starts.specs.Outlook.{Outlook}
-use Rattle.relations.specs.Lists.{many, Row, SameUpTo}
-use Rattle.prospects.specs.Changes.{Changed, Undone}
-use Rattle.prospects.specs.Chosen.{Before, Chosen, Pending, Entering, Entered}
-use Rattle.search.specs.Walking.{found_in, visited, extended, tried, Counted, Standing, Trying, Next, Barren, Promising, Seeking, Sought, Extending, Left}
-use Rattle.search.specs.declared.Progress.{Progress}
-use Rattle.search.specs.declared.Current.{Current}
+use Rattle.relations.specs.declared.Relations.{Relations}
+use Rattle.relations.specs.Lists.{Row}
+use Rattle.relations.specs.Related.{later_in, row_count}
+use Rattle.starts.specs.declared.Prospect.{Prospect}
+use Rattle.starts.specs.declared.Outlook.{Outlook}
+use Rattle.starts.specs.Outlook.{HoldsOutlook, no_prospect}
+use Rattle.prospects.specs.declared.Prospects.{Prospects}
+use Rattle.prospects.specs.Changes.{AllSame, SameBefore, Changed}
+use Rattle.prospects.specs.Chosen.{Before, Chosen, Without, Pending, Entering, Entered}
 use Rattle.prospects.proofs.OneMore.{before-later}
 use Rattle.prospects.proofs.Undoing.{changed-kept}
-use Rattle.prospects.proofs.Entering.{row-wide}
+use Rattle.prospects.proofs.Entering.{values_same, row-wide}
+use Rattle.search.specs.Walking.{found_in, visited, extended, tried, number, rest, Counted, Standing, Trying, Next, Barren, Promising, Seeking, Sought, Extending, Left, Visits, OwnNow}
+use Rattle.search.specs.Walking as walking
 use Rattle.search.proofs.Bounding.{barren, promising}
+use Rattle.search.specs.declared.Progress.{Progress}
+use Rattle.search.specs.declared.Current.{Current}
+use Rattle.search.specs.declared.Course.{Course}
+use Rattle.search.specs.declared.Walk.{Walk}
 
--- what is the same of more numbers is the same of fewer
-shorter : (xs ys : List ℕ) (m n : ℕ) → m ≤ n → take n xs ≡ take n ys → take m xs ≡ take m ys
-shorter xs ys m n h e = sym (take-take m n xs h) ∙ ap (take m) e ∙ take-take m n ys h
+-- The prospects as the walk came with them, where `pending` is the last member, or with the set's own outlook, which can be undone.
+pub record Own (N : Network) (relations : Relations) (S : List ℕ) (last : Option ℕ) (old now : Prospects) : Type 0 where
+  pub member : ℕ
+  pub is-last : last ≡ Some member
+  pub few : length S ≤ 15
+  pub holds : HoldsOutlook N S (member + 1) now.outlook
+  pub changed : Changed (later_in relations member) (length S) 0 (length (later_in relations member)) old.outlook now.outlook now.kept
+
+abbrev pub State : Network → Relations → List ℕ → Option ℕ → Prospects → Option ℕ → Prospects → Type 0
+State N relations S last old pending now = ((pending ≡ last) × AllSame old.outlook now.outlook) ⊎ ((pending ≡ None) × Own N relations S last old now)
+
+-- The next place, from which on the walk finds what it finds with all of them. With none, it has found that.
+pub record Coming (N : Network) (S : List ℕ) (saved from left : ℕ) (f₀ : Found) (p : Progress) (next : ℕ) : Type 0 where
+  pub low : from ≤ next
+  pub promising : Promising N p.spent p.saved.0 saved next left
+  pub allowed : allowed N (S ++ (next ∷ [])) ≡ true
+  pub same : extended N left S next (found_in N p) ≡ extended N left S from f₀
+
+abbrev pub Ahead : Network → List ℕ → ℕ → ℕ → ℕ → Found → Progress → Option ℕ → Type 0
+Ahead N S saved from left f₀ p None = found_in N p ≡ extended N left S from f₀
+Ahead N S saved from left f₀ p (Some next) = Coming N S saved from left f₀ p next
+
+-- what the loop keeps of a course that began at another: its set has these members
+pub record Keeps (w : Walk) (at : Current) (old : Course) (S : List ℕ) (pending : Option ℕ) (course : Course) : Type 0 where
+  pub counted : Counted w.tables.net.now course.progress
+  pub members : course.members.items ≡ S
+  pub kept : SameBefore (length old.members.items) old.prospects.kept course.prospects.kept
+  pub state : State w.tables.net.now w.tables.relations.now old.members.items at.last old.prospects pending course.prospects
+
+-- the walk has come to a place
+pub record Going (w : Walk) (at : Current) (from left : ℕ) (old : Course) (pending next : Option ℕ) (course : Course) : Type 0 where
+  pub keeps : Keeps w at old old.members.items pending course
+  pub ahead : Ahead w.tables.net.now old.members.items at.saved.0 from left (found_in w.tables.net.now old.progress) course.progress next
+
+none-member : {last : ℕ} {o : Option ℕ} → o ≡ Some last → o ≡ None → ⊥
+none-member {last} e f = none-some last (sym f ∙ e)
 
 -- the members of a set with one more place
 before_more : (q : ℕ) (S : List ℕ) → Before q S → 1 ≤ q → Before (q + 1) (S ++ (q ∷ []))
 before_more q [] b l = ((l, omega arith), tt)
 before_more q (p ∷ S) b l = ((b.0.0, omega (arith, b.0.1)), before_more q S b.1 l)
 
--- The outlook as the walk came with it, where `pending` is the last member, or the set's own, which can be undone.
-abbrev pub State : Network → List ℕ → List ℕ → List ℕ → ℕ → ℕ → ℕ → List ℕ → List ℕ → Type 0
-State N lists outlook₀ S size last pending outlook rows =
-    ((pending ≡ last) × (outlook ≡ outlook₀)) ⊎ ((pending ≡ 0) × (1 ≤ last) × (size ≤ 15) × Outlook N S (last + 1) outlook × Changed lists last (size * 195) 1 (many lists last + 1) outlook₀ outlook rows)
+-- the set without its last member
+rest-is : (S : List ℕ) (q : ℕ) → take (length (S ++ (q ∷ [])) - 1) (S ++ (q ∷ [])) ≡ S
+rest-is S q = ap (λ n. take n (S ++ (q ∷ []))) {x = length (S ++ (q ∷ [])) - 1} {y = length S} (omega (arith, length-append S (q ∷ []))) ∙ take-append_seam S (q ∷ [])
 
--- The walk has come to a place: with the places from there on it finds what it finds with all of them.
-pub record Going (N : Network) (lists outlook₀ rows₀ set₀ : List ℕ) (at : Current) (from left : ℕ) (f₀ : Found) (place : ℕ) (p : Progress) (pending : ℕ) (outlook rows set' best : List ℕ) : Type 0 where
-  pub low : from ≤ place
-  pub within : place ≤ length N.places + 1
-  pub counted : Counted N p
-  pub best_long : length best ≡ 16
-  pub set_long : length set' ≡ 16
-  pub set_same : take at.size set' ≡ take at.size set₀
-  pub outlook_long : length outlook ≡ 195
-  pub rows_long : length rows ≡ 3120
-  pub rows_same : SameUpTo (at.size * 195) rows₀ rows
-  pub state : State N lists outlook₀ (take at.size set₀) at.size at.last pending outlook rows
-  pub same : extended N left (take at.size set₀) place (found_in N p best) ≡ extended N left (take at.size set₀) from f₀
+-- outlooks that are the same
+trans-same : (a b c : Outlook) → AllSame a b → AllSame b c → AllSame a c
+trans-same a b c f g p h = g p h ∙ f p h
 
-pub saves-next : {N : Network} {set : List ℕ} {at : Current} {place : ℕ} {next : Current} → Next N set at place next → next.saved.0 ≤ total N
+module _ {N : Network} (few : length N.places ≤ 64) where
+  holds-same : {S : List ℕ} {from : ℕ} (a b : Outlook) → AllSame a b → HoldsOutlook N S from a → HoldsOutlook N S from b
+  holds-same a b f h p l m = values_same {old = a} {new = b} (f p (omega (arith, few))) (h p l m)
+
+module _ {ps : List ℕ} {q row n : ℕ} (r : Row ps q 65) (h : n ≤ length ps) where
+  changed-before : (a b : Outlook) {outlook : Outlook} {rows : List Prospect} → AllSame a b → Changed ps row 0 n b outlook rows → Changed ps row 0 n a outlook rows
+  changed-before a b f c = record { same = λ p l m. c.same p l m ∙ f p l; kept = λ i l m. c.kept i l m ∙ f _ (omega (arith, r.later i (omega arith))) }
+
+  changed-after : (a b : Outlook) {old : Outlook} {rows : List Prospect} → AllSame a b → Changed ps row 0 n old a rows → Changed ps row 0 n old b rows
+  changed-after a b f c = record { same = λ p l m. f p l ∙ c.same p l m; kept = c.kept }
+
+pub saves-next : {N : Network} {S : List ℕ} {at : Current} {place : ℕ} {next : Current} → Next N S at place next → next.saved.0 ≤ total N
 saves-next n = omega (arith, n.saved)
 
-module _ {N : Network} {relations ends lists sums bounds outlook₀ rows₀ set₀ : List ℕ} {at : Current} {from left : ℕ} (x : Extending N relations ends lists sums bounds outlook₀ rows₀ set₀ at from left) where
+module _ {w : Walk} {at : Current} {from left : ℕ} {old : Course} (x : Extending w old at from left) where
+  abbrev N : Network
+  N = w.tables.net.now
+
+  abbrev R : Relations
+  R = w.tables.relations.now
+
   abbrev S : List ℕ
-  S = take at.size set₀
+  S = old.members.items
+
+  abbrev f₀ : Found
+  f₀ = found_in N old.progress
+
+  chosen : Chosen N R S (number at.last)
+  chosen = x.standing.chosen
+
+  pub places-few : length N.places ≤ 64
+  places-few = chosen.accepted.read.place_count
+
+  pub few : left ≤ 16
+  few = omega (arith, x.few, chosen.accepted.read.head.adds.high)
 
   pub saves : at.saved.0 ≤ total N
   saves = omega (arith, x.standing.saved)
 
-  pub few : left ≤ 16
-  few = omega (arith, x.few, x.standing.chosen.accepted.read.head.adds.high)
+  -- the last member
+  module _ {last : ℕ} (e : at.last ≡ Some last) where
+    last-is : number at.last ≡ last
+    last-is = ap number e
 
-  pub places-few : length N.places ≤ 64
-  places-few = x.standing.chosen.accepted.read.place_count
+    -- the set was read from the outlook without it
+    without : (v : Without S last) × HoldsOutlook N v.rest last old.prospects.outlook
+    without = ⊎_elim (λ s. absurd (none-member e s.0)) (λ s. subst (λ k. (v : Without S k) × HoldsOutlook N v.rest k old.prospects.outlook) last-is (s.1, s.2)) x.standing.is-pending
 
-  row : 1 ≤ at.last → Row lists at.last (many lists at.last) 65
-  row l = row-wide (omega (arith, places-few)) (x.related at.last l x.standing.chosen.high).row
+    low : 1 ≤ last
+    low = without.0.low
 
-  -- a state stays while the rows after the set's own change
-  state-kept : {pending : ℕ} {outlook outlook' rows rows' : List ℕ} → outlook' ≡ outlook → SameUpTo (at.size * 195 + 195) rows rows' → State N lists outlook₀ S at.size at.last pending outlook rows
-      → State N lists outlook₀ S at.size at.last pending outlook' rows'
-  state-kept e u (inl s) = inl (s.0, e ∙ s.1)
-  state-kept e u (inr s) = inr (s.0, s.1, s.2, rw e s.3, rw e (changed-kept (row s.1) (omega arith) u s.4))
+    row-of : Row (later_in R last) last 65
+    row-of = row-wide (omega (arith, places-few)) (x.tables.related.later last low (omega (arith, last-is, chosen.high))).row
 
-  pub going-first : (p : Progress) (best : List ℕ) → length best ≡ 16 → Counted N p
-      → Going N lists outlook₀ rows₀ set₀ at from left (found_in N p best) from p at.last outlook₀ rows₀ set₀ best
-  going-first p best b k = record {
-    low = omega arith;
-    within = x.high;
-    counted = k;
-    best_long = b;
-    set_long = x.standing.set_long;
-    set_same = refl;
-    outlook_long = x.outlook_long;
-    rows_long = x.rows_long;
-    rows_same = λ k h. refl;
-    state = inl (refl, refl);
-    same = refl;
-  }
+    row-there : last ≤ row_count R
+    row-there = omega (arith, last-is, chosen.high, x.tables.related.rows)
 
-  module _ {f₀ : Found} {place : ℕ} {p : Progress} {pending : ℕ} {outlook rows set' best : List ℕ} (g : Going N lists outlook₀ rows₀ set₀ at from left f₀ place p pending outlook rows set' best) where
-    abbrev f : Found
-    f = found_in N p best
+  -- a state of the prospects
+  module _ {pending : Option ℕ} {now : Prospects} (s : State N R S at.last old.prospects pending now) where
+    is-pending : Pending N now.outlook S (number at.last) pending
+    is-pending = ⊎_elim
+        (λ s. ⊎_elim
+        (λ t. inl (s.0 ∙ t.0, holds-same places-few old.prospects.outlook now.outlook s.1 t.1))
+        (λ t. inr (s.0 ∙ t.0, t.1, holds-same places-few old.prospects.outlook now.outlook s.1 t.2))
+        x.standing.is-pending)
+        (λ s. inl (s.0, subst (λ k. HoldsOutlook N S (k + 1) now.outlook) (sym (ap number s.1.is-last)) s.1.holds))
+        s
 
-    pub low : 1 ≤ place
-    low = omega (arith, x.low, g.low)
-
-    -- where the walk goes no further and the outlook is as it came, it leaves what it has found
-    stopped : {outlook' : List ℕ} → outlook' ≡ outlook₀ → Barren N p.spent p.saved.0 at.saved.0 place left → Left N (extended N left S from f₀) at.size p outlook₀ outlook' rows₀ rows set₀ set' best
-    stopped e b = record {
-      found = sym (barren N S left place f at.saved.0 g.counted.saved refl x.standing.saved b) ∙ g.same;
-      counted = g.counted;
-      best_long = g.best_long;
-      set_long = g.set_long;
-      set_same = g.set_same;
-      outlook_same = e;
-      rows_long = g.rows_long;
-      rows_same = g.rows_same;
-    }
-
-    pub stopped-same : pending ≡ at.last → Barren N p.spent p.saved.0 at.saved.0 place left → Left N (extended N left S from f₀) at.size p outlook₀ outlook rows₀ rows set₀ set' best
-    stopped-same e = stopped (⊎_elim (λ s. s.1) (λ s. absurd (omega (arith, s.0, s.1))) g.state)
-
-    -- the outlook is the set's own, and its changes are undone
-    module _ (n : pending ≡ at.last → ⊥) where
-      entered : (1 ≤ at.last) × (at.size ≤ 15) × Changed lists at.last (at.size * 195) 1 (many lists at.last + 1) outlook₀ outlook rows
-      entered = ⊎_elim (λ s. absurd (n s.0)) (λ s. (s.1, s.2, s.4)) g.state
-
-      pub left-few : at.size ≤ 15
-      left-few = entered.1
-
-      pub left-row : Row lists at.last (many lists at.last) 65
-      left-row = row entered.0
-
-      pub stopped-undone : {outlook' : List ℕ} → Undone lists at.last (at.size * 195) (many lists at.last + 1) rows outlook outlook' → Barren N p.spent p.saved.0 at.saved.0 place left
-          → Left N (extended N left S from f₀) at.size p outlook₀ outlook' rows₀ rows set₀ set' best
-      stopped-undone u = stopped (u outlook₀ x.outlook_long entered.2)
-
-    -- the set is read from the outlook
-    is-pending : Pending N outlook S at.last pending
-    is-pending = ⊎_elim (λ s. rw (s.0, s.1) x.standing.is-pending) (λ s. inl (s.0, s.3)) g.state
-
-    abbrev S' : List ℕ
-    S' = take at.size set'
-
-    standing : Standing N relations outlook set' at pending
+    standing : Standing N R now.outlook S at pending
     standing = record {
-      set_long = g.set_long;
-      chosen = rw g.set_same x.standing.chosen;
-      is-pending = rw g.set_same is-pending;
-      saved = rw g.set_same x.standing.saved;
-      cost = rw g.set_same x.standing.cost;
-      hours = rw g.set_same x.standing.hours;
+      chosen = chosen;
+      is-pending = is-pending;
+      saved = x.standing.saved;
+      cost = x.standing.cost;
+      hours = x.standing.hours;
       affordable = x.standing.affordable;
       timely = x.standing.timely;
     }
 
-    -- the next place is sought from here on
-    pub seeking : Seeking N relations bounds outlook set' at pending place left p
-    seeking = record { standing = standing; table = x.table; counted = g.counted; low = omega (arith, x.low, g.low); high = g.within; few = x.few }
+    -- it stays while the rows after the set's own change
+    state-after : {now' : Prospects} → AllSame now.outlook now'.outlook → SameBefore (length S + 1) now.kept now'.kept → State N R S at.last old.prospects pending now'
+    state-after {now'} f u = ⊎_elim
+        (λ s. inl (s.0, trans-same old.prospects.outlook now.outlook now'.outlook s.1 f))
+        (λ s. inr (
+          s.0,
+          record {
+            member = s.1.member;
+            is-last = s.1.is-last;
+            few = s.1.few;
+            holds = holds-same places-few now.outlook now'.outlook f s.1.holds;
+            changed = changed-after (row-of s.1.is-last) (omega arith) now.outlook now'.outlook f (changed-kept (row-of s.1.is-last) (omega arith) u s.1.changed);
+          },
+        ))
+        s
 
-    -- and the walk has come to it
-    pub going-sought : {next : ℕ} → Sought N S' at.saved.0 place left p next → Going N lists outlook₀ rows₀ set₀ at from left f₀ next p pending outlook rows set' best
-    going-sought {next} s = record {
-      low = omega (arith, g.low, s.low);
-      within = s.high;
-      counted = g.counted;
-      best_long = g.best_long;
-      set_long = g.set_long;
-      set_same = g.set_same;
-      outlook_long = g.outlook_long;
-      rows_long = g.rows_long;
-      rows_same = g.rows_same;
-      state = g.state;
-      same = subst (λ U. extended N left U next f ≡ extended N left U place f) g.set_same (s.same f refl refl) ∙ g.same;
-    }
+    -- the set is entered, where one member is pending
+    module _ (room : length S ≤ 15) where
+      entering : (last : ℕ) → pending ≡ Some last → Entering N R S (length S) last now
+      entering last e = ⊎_elim
+          (λ s.
+          let l = sym s.0 ∙ e in
+          let v = without l in
+          record {
+            chosen = subst (Chosen N R S) (last-is l) chosen;
+            without = v.0;
+            holds = holds-same places-few old.prospects.outlook now.outlook s.1 v.1;
+            few = room;
+          })
+          (λ s. absurd (none-member e s.0))
+          s
 
-    module _ (h : Promising N p.spent p.saved.0 at.saved.0 place left) where
-      -- the place is tried
-      pub trying : Trying N relations outlook set' at pending place
-      trying = record { standing = standing; low = omega (arith, x.low, g.low); high = h.high; few = omega (arith, x.few, h.some) }
+      -- and has its own outlook
+      abbrev Owned : Prospects → Type 0
+      Owned now' = HoldsOutlook N S (number at.last + 1) now'.outlook × State N R S at.last old.prospects None now' × SameBefore (length S) now.kept now'.kept
 
-      abbrev T : List ℕ
-      T = S' ++ (place ∷ [])
+      owned-some : {now' : Prospects} (last : ℕ) → pending ≡ Some last → Entered N R S (length S) last now now' → Owned now'
+      owned-some {now'} last e n = ⊎_elim
+          (λ s.
+          let l = sym s.0 ∙ e in (
+            subst (λ k. HoldsOutlook N S (k + 1) now'.outlook) (sym (last-is l)) n.own,
+            inr (refl, record { member = last; is-last = l; few = room; holds = n.own; changed = changed-before (row-of l) (omega arith) old.prospects.outlook now.outlook s.1 n.changed }),
+            n.below,
+          ))
+          (λ s. absurd (none-member e s.0))
+          s
 
-      abbrev set⁺ : List ℕ
-      set⁺ = set set' at.size place
+      owned-none : {now' : Prospects} → pending ≡ None → now' ≡ now → Owned now'
+      owned-none e q = rw q (
+        ⊎_elim (λ t. t.1) (λ t. absurd (none-member t.0 e)) is-pending,
+        subst (λ o. State N R S at.last old.prospects o now) e s,
+        λ k l. refl,
+      )
 
-      pub some : 1 ≤ left
-      some = omega (arith, h.some)
+      owned : {now' : Prospects} → (pending ≡ None → now' ≡ now) → ((last : ℕ) → pending ≡ Some last → Entered N R S (length S) last now now') → Owned now'
+      owned {now'} a b = go pending refl
+        where
+          go : (o : Option ℕ) → pending ≡ o → Owned now'
+          go None e = owned-none e (a e)
+          go (Some last) e = owned-some last e (b last e)
 
-      pub room : at.size < 16
-      room = omega (arith, x.few, some, x.standing.chosen.accepted.read.head.adds.high)
+  -- the place after which no other is tried yet
+  coming : (p : Progress) {next : Option ℕ} {place : ℕ} → Ahead N S at.saved.0 from left f₀ p next → next ≡ Some place → Coming N S at.saved.0 from left f₀ p place
+  coming p a e = subst (Ahead N S at.saved.0 from left f₀ p) e a
 
-      pub set⁺-long : length set⁺ ≡ 16
-      set⁺-long = length-set set' at.size place ∙ g.set_long
+  pub done : (p : Progress) {next : Option ℕ} → Ahead N S at.saved.0 from left f₀ p next → next ≡ None → found_in N p ≡ extended N left S from f₀
+  done p a e = subst (Ahead N S at.saved.0 from left f₀ p) e a
 
-      pub set⁺-is : take (at.size + 1) set⁺ ≡ T
-      set⁺-is = ap (λ n. take n set⁺) (add-one at.size) ∙ take-suc-set set' at.size place (omega (arith, g.set_long, room))
+  ahead-after : (p : Progress) (next : Option ℕ) (place : ℕ) → from ≤ place → extended N left S place (found_in N p) ≡ extended N left S from f₀ → Sought N S at.saved.0 place left p next → Ahead N S at.saved.0 from left f₀ p next
+  ahead-after p None place l e s = s (found_in N p) refl refl ∙ e
+  ahead-after p (Some next) place l e s = record { low = omega (arith, l, s.low); promising = s.promising; allowed = s.allowed; same = s.same (found_in N p) refl refl ∙ e }
 
-      set⁺-same : take at.size set⁺ ≡ S'
-      set⁺-same = take-set-le at.size set' at.size place (omega arith)
+  -- the set with the place, visited and extended or not
+  pub record Halfway (place : ℕ) (pending : Option ℕ) (course : Course) : Type 0 where
+    pub keeps : Keeps w at old (S ++ (place ∷ [])) pending course
+    pub same : extended N left S (place + 1) (found_in N course.progress) ≡ extended N left S from f₀
 
-      -- and the walk goes on with the next
-      abbrev On : Progress → ℕ → List ℕ → List ℕ → List ℕ → List ℕ → Type 0
-      On q pending₂ outlook₂ rows₂ set₂ best₂ = Going N lists outlook₀ rows₀ set₀ at from left f₀ (place + 1) q pending₂ outlook₂ rows₂ set₂ best₂
+  module _ {pending next : Option ℕ} {course : Course} (g : Going w at from left old pending next course) {place : ℕ} (e : next ≡ Some place) where
+    abbrev come : Coming N S at.saved.0 from left f₀ course.progress place
+    come = coming course.progress g.ahead e
 
-      tried-is : extended N left S (place + 1) (tried N (left - 1) S' place f) ≡ extended N left S from f₀
-      tried-is =
-          ap (λ U. extended N left S (place + 1) (tried N (left - 1) U place f)) g.set_same
-          ∙ sym (promising N S left place f at.saved.0 g.counted.saved refl x.standing.saved h)
-          ∙ g.same
+    -- the place is tried
+    pub trying : Trying N R course.prospects.outlook course.members.items at pending place
+    trying = rw g.keeps.members (record { standing = standing g.keeps.state; low = omega (arith, x.low, come.low); high = come.promising.high; few = omega (arith, x.few, come.promising.some) })
 
-      -- the set with the place is visited
-      module _ (b : allowed N T ≡ true) {next : Current} (n : Next N set' at place next) (q : Progress) (best₁ : List ℕ) (long : length best₁ ≡ 16) (k : Counted N q)
-          (v : found_in N q best₁ ≡ visited N (take (at.size + 1) set⁺) f) where
-        tried-allowed : extended N (left - 1) T (place + 1) (found_in N q best₁) ≡ tried N (left - 1) S' place f
-        unfolding tried
-        tried-allowed = ap (extended N (left - 1) T (place + 1)) (v ∙ ap (λ U. visited N U f) set⁺-is) ∙ sym (on-true _ _ b)
+    pub some : 1 ≤ left
+    some = omega (arith, come.promising.some)
 
-        -- and not extended
-        pub on-barren : Barren N q.spent q.saved.0 next.saved.0 (place + 1) (left - 1) → On q pending outlook rows set⁺ best₁
-        on-barren r = record {
-          low = omega (arith, g.low);
-          within = omega (arith, h.high);
-          counted = k;
-          best_long = long;
-          set_long = set⁺-long;
-          set_same = set⁺-same ∙ g.set_same;
-          outlook_long = g.outlook_long;
-          rows_long = g.rows_long;
-          rows_same = g.rows_same;
-          state = g.state;
-          same =
-              ap (extended N left S (place + 1))
-              (sym (barren N T (left - 1) (place + 1) (found_in N q best₁) next.saved.0 k.saved refl n.saved r) ∙ tried-allowed)
-              ∙ tried-is;
+    room : length S ≤ 15
+    room = omega (arith, x.few, some, chosen.accepted.read.head.adds.high)
+
+    abbrev T : List ℕ
+    T = S ++ (place ∷ [])
+
+    tried-is : extended N left S (place + 1) (tried N (left - 1) S place (found_in N course.progress)) ≡ extended N left S from f₀
+    tried-is = sym (promising N S left place (found_in N course.progress) at.saved.0 g.keeps.counted.saved refl x.standing.saved come.promising) ∙ come.same
+
+    -- the set with the place is visited
+    module _ {more : Current} (n : Next N course.members.items at place more) {pushed v : Course}
+        (i : pushed.members.items ≡ course.members.items ++ (place ∷ [])) (q : pushed.prospects ≡ course.prospects) (r : pushed.progress ≡ course.progress) (vs : Visits N pushed v) where
+      next-place : Next N S at place more
+      next-place = subst (λ U. Next N U at place more) g.keeps.members n
+
+      pushed-is : pushed.members.items ≡ T
+      pushed-is = i ∙ ap (λ U. U ++ (place ∷ [])) g.keeps.members
+
+      T-is : v.members.items ≡ T
+      T-is = ap (λ (m : ArrayVec ℕ). m.items) vs.members ∙ pushed-is
+
+      prospects-are : v.prospects ≡ course.prospects
+      prospects-are = vs.prospects ∙ q
+
+      found-is : found_in N v.progress ≡ visited N T (found_in N course.progress)
+      found-is = vs.found ∙ (λ k. visited N (pushed-is k) (found_in N (r k)))
+
+      tried-allowed : extended N (left - 1) T (place + 1) (found_in N v.progress) ≡ tried N (left - 1) S place (found_in N course.progress)
+      unfolding tried
+      tried-allowed = ap (extended N (left - 1) T (place + 1)) found-is ∙ sym (on-true _ _ come.allowed)
+
+      keeps-v : Keeps w at old T pending v
+      keeps-v = record {
+        counted = vs.counted;
+        members = T-is;
+        kept = λ k l. ap (λ (p : Prospects). get_or p.kept k no_prospect) prospects-are ∙ g.keeps.kept k l;
+        state = subst (State N R S at.last old.prospects pending) (sym prospects-are) g.keeps.state;
+      }
+
+      -- and not extended
+      pub not-deeper : Barren N v.progress.spent v.progress.saved.0 more.saved.0 (place + 1) (left - 1) → Halfway place pending v
+      not-deeper b = record {
+        keeps = keeps-v;
+        same = ap (extended N left S (place + 1)) (sym (barren N T (left - 1) (place + 1) (found_in N v.progress) more.saved.0 vs.counted.saved refl next-place.saved b) ∙ tried-allowed) ∙ tried-is;
+      }
+
+      rest-v : rest v.members.items ≡ S
+      rest-v = ap rest T-is ∙ rest-is S place
+
+      -- it gets its own outlook, if it has none
+      pub entering-v : walking.Entering w.tables v pending
+      entering-v = record {
+        some = omega (arith, ap length T-is, length-append S (place ∷ []));
+        entering = λ last l. subst (λ U. Entering N R U (length U) last v.prospects) (sym rest-v) (subst (Entering N R S (length S) last) (sym prospects-are) (entering g.keeps.state room last l));
+      }
+
+      -- it has it
+      module _ {en : Course} (o : OwnNow w.tables pending v en) where
+        own : Owned g.keeps.state room en.prospects
+        own = owned g.keeps.state room
+            (λ l. o.same l ∙ prospects-are)
+            (λ last l. subst (λ p. Entered N R S (length S) last p en.prospects) prospects-are (subst (λ U. Entered N R U (length U) last v.prospects en.prospects) rest-v (o.entered last l)))
+
+        en-is : en.members.items ≡ T
+        en-is = ap (λ (m : ArrayVec ℕ). m.items) o.members ∙ T-is
+
+        before : Before place S
+        before = before-later (number at.last + 1) place S (omega (arith, x.low, come.low)) chosen.members
+
+        low-place : 1 ≤ place
+        low-place = omega (arith, x.low, come.low)
+
+        chosen-more : Chosen N R T place
+        chosen-more = record {
+          accepted = chosen.accepted;
+          related = chosen.related;
+          high = come.promising.high;
+          members = before_more place S before low-place;
+          series = (series-rule (with_breakers N T)).1 ((allowed-means N T).0 come.allowed).series;
         }
 
-        U-is : take at.size set⁺ ≡ S
-        U-is = set⁺-same ∙ g.set_same
+        standing-more : Standing N R en.prospects.outlook T more more.last
+        standing-more = record {
+          chosen = subst (λ l. Chosen N R T (number l)) (sym n.last) chosen-more;
+          is-pending = subst (λ l. Pending N en.prospects.outlook T (number l) l) (sym n.last)
+              (inr (refl, record { rest = S; low = low-place; is = refl; before = before }, λ p a b. own.0 p (omega (arith, x.low, come.low)) b));
+          saved = next-place.saved;
+          cost = next-place.cost;
+          hours = next-place.hours;
+          affordable = omega (arith, next-place.cost, ((allowed-means N T).0 come.allowed).money);
+          timely = omega (arith, next-place.hours, ((allowed-means N T).0 come.allowed).hours);
+        }
 
-        -- the set gets its own outlook, if it has none
-        pub entering : (pending ≡ 0 → ⊥) → Entering N relations ends lists outlook rows (take at.size set⁺) at.size pending
-        entering d = ⊎_elim
-            (λ s. absurd (d s.0))
-            (λ s. rw (U-is, s.0) (record {
-              chosen = x.standing.chosen;
-              coded = x.coded;
-              related = x.related;
-              without = s.1;
-              holds = s.2;
-              outlook_long = g.outlook_long;
-              rows_long = g.rows_long;
-              few = omega (arith, room);
-            }))
-            is-pending
+        -- the set with the place is extended
+        pub extending : Extending w en more (place + 1) (left - 1)
+        extending = record {
+          tables = x.tables;
+          table = x.table;
+          standing = subst (λ U. Standing N R en.prospects.outlook U more more.last) (sym en-is) standing-more;
+          counted = subst (Counted N) (sym o.progress) vs.counted;
+          low = omega (arith, ap number n.last);
+          high = omega (arith, come.promising.high);
+          few = omega (arith, ap length en-is, length-append S (place ∷ []), x.few, some);
+        }
 
-        -- it has it
-        module _ {outlook₁ rows₁ : List ℕ}
-            (d : ((pending ≡ 0) × (outlook₁ ≡ outlook) × (rows₁ ≡ rows)) ⊎ ((pending ≡ 0 → ⊥) × Entered N lists (take at.size set⁺) at.size pending outlook outlook₁ rows rows₁)) where
-          abbrev Own : Type 0
-          Own = (length outlook₁ ≡ 195) × (length rows₁ ≡ 3120) × Outlook N S (at.last + 1) outlook₁ × SameUpTo (at.size * 195) rows₀ rows₁ × State N lists outlook₀ S at.size at.last 0 outlook₁ rows₁
+        pub deeper : {ex : Course} → Left N (extended N (left - 1) en.members.items (place + 1) (found_in N en.progress)) en ex → Halfway place None ex
+        deeper {ex} l =
+            let kept : SameBefore (length S + 1) en.prospects.kept ex.prospects.kept = subst (λ m. SameBefore m en.prospects.kept ex.prospects.kept) (ap length en-is ∙ length-append S (place ∷ [])) l.kept in
+            record {
+              keeps = record {
+                counted = l.counted;
+                members = l.members ∙ en-is;
+                kept = λ k m. kept k (omega arith) ∙ own.2 k m ∙ g.keeps.kept k m;
+                state = state-after own.1 l.outlook kept;
+              };
+              same =
+                  ap (extended N left S (place + 1)) (l.found ∙ (λ k. extended N (left - 1) (en-is k) (place + 1) (found_in N (o.progress k))) ∙ tried-allowed)
+                  ∙ tried-is;
+            }
 
-          -- it had it already
-          had : (pending ≡ 0) × (outlook₁ ≡ outlook) × (rows₁ ≡ rows) → Own
-          had s = rw (s.1, s.2) (
-            g.outlook_long,
-            g.rows_long,
-            ⊎_elim (λ t. t.1) (λ t. absurd (omega (arith, s.0, t.0, t.1.low))) is-pending,
-            g.rows_same,
-            subst (λ b. State N lists outlook₀ S at.size at.last b outlook rows) s.0 g.state,
-          )
+    -- the place is taken out again
+    module _ {pending' : Option ℕ} {course' : Course} (h : Halfway place pending' course') {popped : List ℕ} (r : popped ≡ rest course'.members.items) where
+      popped-is : popped ≡ S
+      popped-is = r ∙ ap rest h.keeps.members ∙ rest-is S place
 
-          got : (pending ≡ 0 → ⊥) × Entered N lists (take at.size set⁺) at.size pending outlook outlook₁ rows rows₁ → Own
-          got s = ⊎_elim
-              (λ t.
-              let e = subst (λ l. Entered N lists S at.size at.last l outlook₁ rows rows₁) t.1 (subst (λ b. Entered N lists S at.size b outlook outlook₁ rows rows₁) t.0 (subst (λ U. Entered N lists U at.size pending outlook outlook₁ rows rows₁) U-is s.1)) in
-              (e.outlook_long, e.rows_long, e.own, λ k l. e.below k l ∙ g.rows_same k l, inr (refl, omega (arith, t.0, s.0), omega (arith, room), e.own, e.changed)))
-              (λ t. absurd (s.0 t.0))
-              g.state
+      -- the next place is sought
+      pub seeking : Seeking N R w.bounds.now course'.prospects.outlook popped at pending' (place + 1) left course'.progress
+      seeking = subst (λ U. Seeking N R w.bounds.now course'.prospects.outlook U at pending' (place + 1) left course'.progress) (sym popped-is) (record {
+        standing = standing h.keeps.state;
+        table = x.table;
+        counted = h.keeps.counted;
+        low = omega (arith, x.low, come.low);
+        high = omega (arith, come.promising.high);
+        few = x.few;
+      })
 
-          own : Own
-          own = ⊎_elim had got d
-
-          before : Before place S'
-          before = before-later (at.last + 1) place S' (omega (arith, trying.low)) trying.standing.chosen.members
-
-          next-is : take next.size set⁺ ≡ T
-          next-is = ap (λ m. take m set⁺) n.size ∙ set⁺-is
-
-          chosen : Chosen N relations T place
-          chosen = record {
-            accepted = x.standing.chosen.accepted;
-            related = x.standing.chosen.related;
-            high = h.high;
-            members = before_more place S' before low;
-            series = (series-rule (with_breakers N T)).1 ((allowed-means N T).0 b).series;
-          }
-
-          -- the set with the place is extended
-          pub extending : Extending N relations ends lists sums bounds outlook₁ rows₁ set⁺ next (place + 1) (left - 1)
-          extending = record {
-            coded = x.coded;
-            related = x.related;
-            behind = x.behind;
-            table = x.table;
-            standing = record {
-              set_long = set⁺-long;
-              chosen = rw (next-is, n.last) chosen;
-              is-pending = rw (next-is, n.last) (inr (refl, record { rest = S'; low = low; is = refl; before = before }, rw g.set_same (λ p a b. own.2 p (omega (arith, trying.low)) b)));
-              saved = rw next-is n.saved;
-              cost = rw next-is n.cost;
-              hours = rw next-is n.hours;
-              affordable = omega (arith, n.cost, ((allowed-means N T).0 b).money);
-              timely = omega (arith, n.hours, ((allowed-means N T).0 b).hours);
-            };
-            outlook_long = own.0;
-            rows_long = own.1;
-            low = omega (arith, n.last);
-            high = omega (arith, h.high);
-            few = omega (arith, n.size, x.few, some);
-          }
-
-          pub on-extended : (q₂ : Progress) (outlook₂ rows₂ set₂ best₂ : List ℕ)
-              → Left N (extended N (left - 1) (take next.size set⁺) (place + 1) (found_in N q best₁)) next.size q₂ outlook₁ outlook₂ rows₁ rows₂ set⁺ set₂ best₂
-              → On q₂ 0 outlook₂ rows₂ set₂ best₂
-          on-extended q₂ outlook₂ rows₂ set₂ best₂ r = record {
-            low = omega (arith, g.low);
-            within = omega (arith, h.high);
-            counted = r.counted;
-            best_long = r.best_long;
-            set_long = r.set_long;
-            set_same = shorter set₂ set⁺ at.size next.size (omega (arith, n.size)) r.set_same ∙ set⁺-same ∙ g.set_same;
-            outlook_long = ap length r.outlook_same ∙ own.0;
-            rows_long = r.rows_long;
-            rows_same = λ k l. r.rows_same k (omega (arith, n.size)) ∙ own.3 k l;
-            state = state-kept r.outlook_same (λ k l. r.rows_same k (omega (arith, n.size))) own.4;
-            same =
-                ap (extended N left S (place + 1)) (r.found ∙ ap (λ U. extended N (left - 1) U (place + 1) (found_in N q best₁)) next-is ∙ tried-allowed)
-                ∙ tried-is;
-          }
+      -- and the walk has come to it
+      pub going-on : {next' : Option ℕ} (on : Course) → on.members.items ≡ popped → on.prospects ≡ course'.prospects → on.progress ≡ course'.progress
+          → Sought N popped at.saved.0 (place + 1) left course'.progress next' → Going w at from left old pending' next' on
+      going-on {next'} on m p q s = record {
+        keeps = record {
+          counted = subst (Counted N) (sym q) h.keeps.counted;
+          members = m ∙ popped-is;
+          kept = subst (λ o. SameBefore (length S) old.prospects.kept o.kept) (sym p) h.keeps.kept;
+          state = subst (State N R S at.last old.prospects pending') (sym p) h.keeps.state;
+        };
+        ahead = subst (λ o. Ahead N S at.saved.0 from left f₀ o next') (sym q)
+            (ahead-after course'.progress next' (place + 1) (omega (arith, come.low)) h.same (subst (λ U. Sought N U at.saved.0 (place + 1) left course'.progress next') popped-is s));
+      }

@@ -1,24 +1,23 @@
 -- The search for the next place that a set may get.
 use Prim.Native.Nat.{ℕ, ◌+◌, ◌-◌, ◌≤◌}
 use mathlib.Core.Path.{◌≡◌, refl, sym, ap, ◌∙◌}
-use mathlib.Core.Bool.{true, false, true≢false}
-use mathlib.Core.Logic.{⊎_elim}
+use mathlib.Core.Bool.{true, false}
 use mathlib.Core.List.{List, [], ◌∷◌, ◌++◌}
 use native.Mathlib.Omega.{arith}
-use lib.ListN.{length, take}
+use lib.ListN.{length}
 use Rattle.model.specs.Network.{Network}
 use Rattle.model.specs.Outage.{total}
 use Rattle.model.specs.Sets.{allowed}
 use Rattle.model.specs.Walk.{Found}
 use Rattle.walks.specs.Runs.{on-false}
 use Rattle.search.specs.Walking.{extended, tried, Trying, Barren, Promising, Seeking, Sought}
+use Rattle.std.specs.Prelude.{Option, None, Some}
+use Rattle.relations.specs.declared.Relations.{Relations}
+use Rattle.bounds.specs.declared.Bounds.{Bounds}
+use Rattle.starts.specs.declared.Outlook.{Outlook}
 use Rattle.search.specs.declared.Progress.{Progress}
 use Rattle.search.specs.declared.Current.{Current}
-use Rattle.search.proofs.Bounding.{promising}
-
--- what may do better is not barren
-promising-not : {N : Network} (p : Progress) {saved from left : ℕ} → Promising N p.spent p.saved.0 saved from left → Barren N p.spent p.saved.0 saved from left → ⊥
-promising-not p h b = ⊎_elim h.some (λ c. ⊎_elim (λ e. omega (arith, e, h.high)) (λ d. ⊎_elim (λ e. true≢false (sym e ∙ h.unspent)) (λ e. omega (arith, e, h.hope)) d) c) b
+use Rattle.search.proofs.Bounding.{barren, promising}
 
 -- the places from one up to another are passed over
 pub record Passed (N : Network) (S : List ℕ) (from left : ℕ) (p : Progress) (place : ℕ) : Type 0 where
@@ -26,10 +25,7 @@ pub record Passed (N : Network) (S : List ℕ) (from left : ℕ) (p : Progress) 
   pub high : place ≤ length N.places + 1
   pub same : (f : Found) → f.spent ≡ p.spent → f.best ≡ total N - p.saved.0 → extended N left S place f ≡ extended N left S from f
 
-module _ {N : Network} {relations bounds outlook set : List ℕ} {at : Current} {pending from left : ℕ} {p : Progress} (x : Seeking N relations bounds outlook set at pending from left p) where
-  abbrev S : List ℕ
-  S = take at.size set
-
+module _ {N : Network} {relations : Relations} {bounds : Bounds} {outlook : Outlook} {S : List ℕ} {at : Current} {pending : Option ℕ} {from left : ℕ} {p : Progress} (x : Seeking N relations bounds outlook S at pending from left p) where
   pub saves : at.saved.0 ≤ total N
   saves = omega (arith, x.standing.saved)
 
@@ -43,8 +39,12 @@ module _ {N : Network} {relations bounds outlook set : List ℕ} {at : Current} 
     pub positive : 1 ≤ place
     positive = omega (arith, x.low, g.low)
 
+    -- the walk goes no further
+    pub sought-none : Barren N p.spent p.saved.0 at.saved.0 place left → Sought N S at.saved.0 from left p None
+    sought-none b = λ f e k. sym (barren N S left place f at.saved.0 x.counted.saved k x.standing.saved (rw e b)) ∙ g.same f e k
+
     module _ (h : Promising N p.spent p.saved.0 at.saved.0 place left) where
-      pub trying : Trying N relations outlook set at pending place
+      pub trying : Trying N relations outlook S at pending place
       trying = record { standing = x.standing; low = omega (arith, x.low, g.low); high = h.high; few = omega (arith, x.few, h.some) }
 
       -- a place that the set may not get
@@ -59,8 +59,6 @@ module _ {N : Network} {relations bounds outlook set : List ℕ} {at : Current} 
             ∙ g.same f e k;
       }
 
-    pub sought : allowed N (S ++ (place ∷ [])) ≡ true → Sought N S at.saved.0 from left p place
-    sought b = record { low = g.low; high = g.high; same = g.same; fitting = λ _. b }
-
-    pub sought-none : Barren N p.spent p.saved.0 at.saved.0 place left → Sought N S at.saved.0 from left p place
-    sought-none b = record { low = g.low; high = g.high; same = g.same; fitting = λ h. absurd (promising-not p h b) }
+      -- one that it may
+      pub sought : allowed N (S ++ (place ∷ [])) ≡ true → Sought N S at.saved.0 from left p (Some place)
+      sought b = record { low = g.low; promising = h; allowed = b; same = g.same }

@@ -1,88 +1,109 @@
 // The search: a walk over sets of places.
-// Where a function takes `pending`, that is the set's last member if the outlook is still without it, and 0 if the outlook is the
-// set's own.
+// Where a function takes `pending`, that is the set's last member if the outlook of the course is still without it; there is none if
+// the outlook is the set's own, or the set is empty.
 #![tactic(auto)]
 
-ghost use Rattle.std.specs.Prelude.{◌≡◌, true, false, ◌&&◌, [], ◌∷◌, ◌++◌, ◌+◌, ◌≤◌, leb, length, take};
+ghost use Rattle.std.specs.Prelude.{◌≡◌, true, false, ◌&&◌, [], ◌∷◌, ◌++◌, ◌+◌, ◌≤◌, leb, ltb, length};
 ghost use Rattle.model.specs.Outage.{total as total_of};
 ghost use Rattle.model.specs.Sets.{place_at, allowed, set_total};
 ghost use Rattle.model.specs.Walk.{search};
 ghost use Rattle.theory.specs.Reading.{Read};
-ghost use Rattle.theory.specs.Best.{Accepted};
 ghost use Rattle.network.specs.There.{PlaceThere};
 ghost use Rattle.outage.specs.Held.{HoldsCustomers};
-ghost use Rattle.marks.specs.Held.{HoldsEnds};
-ghost use Rattle.bounds.specs.Bounds.{HoldsBounds};
-ghost use Rattle.search.specs.Walking.{found_in, begun, visited, extended, Counted, Trying, Next, Barren, Promising, Seeking, Sought, Extending, Left, Starting};
+ghost use Rattle.prospects.specs.Chosen.{IsUnfilled};
+ghost use Rattle.search.specs.Walking.{Chooses, found_in, Begun, visited, extended, Counted, TryingIn, Next, Weighing, BarrenIn, PromisingIn, SeekingIn, Sought, Extending, Left, Starting, Entering, OwnNow, Visits, Leaving, UndoneIn};
 
 use amounts::Total;
+use arrayvec::ArrayVec;
+use bounds::Bounds;
 use network::Network;
+use prospects::{Choice, Prospects, Tables};
 
-// How far a walk has come: how much the best set saves of the file's total, how many members it has, the visits, and whether the
-// walk is spent.
-#[derive(Clone, Copy)]
+// How far a walk has come: the members of the best set, how much it saves of the file's total, the visits, and whether the walk is
+// spent.
+#[derive(Drop)]
 pub struct Progress {
+    pub best: ArrayVec<usize, 16>,
     pub saved: Total,
-    pub count: usize,
     pub visits: u64,
     pub spent: bool,
 }
 
-// The set that a walk stands at: how many members it has, the last of them (0 for the empty set), how much it saves of the file's
-// total, its cost and its hours.
+impl Progress {
+    // A walk before its first visit.
+    fn begin() -> Progress
+        ensures { Begun result }
+    {
+        Progress {
+            best: ArrayVec::new(),
+            saved: Total::ZERO,
+            visits: 0,
+            spent: false,
+        }
+    }
+}
+
+// The set that a walk stands at, beside its members: the last of them, how much it saves of the file's total, its cost and its hours.
 #[derive(Clone, Copy)]
 pub struct Current {
-    pub size: usize,
-    pub last: usize,
+    pub last: Option<usize>,
     pub saved: Total,
     pub cost: u64,
     pub hours: u64,
 }
 
-// A visit of a set is due. At the limit the walk is spent. Else the visit is counted, and the set is best if it saves more.
-fn visit(
-    net: &Network,
-    set: &[u64; 16],
-    size: usize,
-    saved: Total,
-    best: &mut [u64; 16],
-    progress: Progress,
-) -> Progress
-    requires { (length set.now ≡ 16) × (length best.old ≡ 16) × (size ≤ 16)
-        × (saved.0 + set_total net.now (take size set.now) ≡ total_of net.now)
-        × Counted net.now progress }
-    ensures { (length best.new ≡ 16) × Counted net.now result
-        × (found_in net.now result best.new
-        ≡ visited net.now (take size set.now)
-        (found_in net.now progress best.old)) }
+// Where a walk stands: the members of its set, the prospects of the places, and how far it has come.
+#[derive(Drop)]
+pub struct Course {
+    pub members: ArrayVec<usize, 16>,
+    pub prospects: Prospects,
+    pub progress: Progress,
+}
+
+impl Course {
+    // Room for a walk, which begins at the empty set.
+    pub fn new() -> Course
+        ensures members { result.members.items ≡ [] }
+        ensures prospects { IsUnfilled result.prospects }
+        ensures progress { Begun result.progress }
+    {
+        Course {
+            members: ArrayVec::new(),
+            prospects: Prospects::new(),
+            progress: Progress::begin(),
+        }
+    }
+
+    // The set as the prospects of the later places are read from it: the outlook is still without its last member if that is
+    // `pending`.
+    fn choice<'a>(&'a self, tables: &Tables<'a>, pending: Option<usize>) -> Choice<'a>
+        ensures { Chooses tables.now self.now pending result }
+    {
+        Choice {
+            tables: *tables,
+            outlook: &self.prospects.outlook,
+            members: self.members.as_slice(),
+            pending,
+        }
+    }
+}
+
+// Makes a list of members another's copy.
+fn copy_members(members: &[usize], copy: &mut ArrayVec<usize, 16>)
+    requires { length members.now ≤ 16 }
+    ensures { copy.new.items ≡ members.now }
 {
-    let most = progress.saved;
-    let limit = net.head().visits;
-    if progress.visits == limit {
-        return Progress {
-            saved: most,
-            count: progress.count,
-            visits: progress.visits,
-            spent: true,
-        };
+    copy.clear();
+    for member in members {
+        copy.push(*member);
     }
-    let visits = progress.visits + 1;
-    let better = most.below(saved);
-    if better {
-        lists::put_numbers(set, size, best);
-        return Progress {
-            saved,
-            count: size,
-            visits,
-            spent: progress.spent,
-        };
-    }
-    Progress {
-        saved: most,
-        count: progress.count,
-        visits,
-        spent: progress.spent,
-    }
+}
+
+// Whether a set saves less than another.
+fn saves_less(saved: Total, other: Total) -> bool
+    ensures { result ≡ ltb saved.0 other.0 }
+{
+    saved < other
 }
 
 // Whether a set with such a cost and such hours is within the file's money and hours.
@@ -112,283 +133,215 @@ fn hours_with(net: &Network, current: Current, place: usize) -> u64
     current.hours + net.place_hours(place)
 }
 
-// Whether the set with one more place is allowed.
-fn may_get(
-    net: &Network,
-    relations: &[u64; 4225],
-    outlook: &[u64; 195],
-    set: &[u64; 16],
-    current: Current,
-    pending: usize,
-    place: usize,
-) -> bool
-    requires { Trying net.now relations.now outlook.now set.now current pending place }
-    ensures { result ≡ allowed net.now (take current.size set.now ++ (place ∷ [])) }
-{
-    let in_series = prospects::in_series_of(
-        net,
-        relations,
-        outlook,
-        set,
-        current.size,
-        pending,
-        place,
-    );
-    let series = net.head().series;
-    if series <= in_series {
-        return false;
-    }
-    let cost = cost_with(net, current, place);
-    let hours = hours_with(net, current, place);
-    within_means(net, cost, hours)
-}
-
-// The set with one more place.
-fn with_place(
-    net: &Network,
-    relations: &[u64; 4225],
-    ends: &[u64; 65],
-    sums: &[u64; 768],
-    outlook: &[u64; 195],
-    set: &[u64; 16],
-    current: Current,
-    pending: usize,
-    place: usize,
-) -> Current
-    requires { Trying net.now relations.now outlook.now set.now current pending place
-        × HoldsEnds net.now ends.now × HoldsCustomers net.now sums.now }
-    ensures { Next net.now set.now current place result }
-{
-    let size = current.size;
-    let fall = prospects::fall(
-        net, relations, ends, sums, outlook, set, size, pending, place,
-    );
-    Current {
-        size: size + 1,
-        last: place,
-        saved: current.saved.plus(fall),
-        cost: cost_with(net, current, place),
-        hours: hours_with(net, current, place),
-    }
-}
-
-// Whether a set that saves so much is to be extended by places from `from` on: it may get `left`, some are left, the walk is not
-// spent, and by the bound they may do better than the best.
-fn goes_on(
-    net: &Network,
-    bounds: &[u64; 1105],
-    saved: Total,
-    from: usize,
-    left: usize,
-    found: Progress,
-) -> bool
-    requires { Accepted net.now × HoldsBounds net.now bounds.now
-        × Counted net.now found × (saved.0 ≤ total_of net.now) × (left ≤ 16) × (1 ≤ from) }
-    ensures { (result ≡ false → Barren net.now found.spent found.saved.0 saved.0 from left)
-        × (result ≡ true → Promising net.now found.spent found.saved.0 saved.0 from left) }
-{
-    let full = left == 0;
-    if full {
-        return false;
-    }
-    if net.place_count() < from {
-        return false;
-    }
-    if found.spent {
-        return false;
-    }
-    let more = bounds::most_saved(net, bounds, left, from);
-    saved.can_pass(more, found.saved)
-}
-
-// Whether a set whose last member is `place` is to be extended, by `left` more places.
-fn goes_deeper(
-    net: &Network,
-    bounds: &[u64; 1105],
-    saved: Total,
-    place: usize,
-    left: usize,
-    found: Progress,
-) -> bool
-    requires { Accepted net.now × HoldsBounds net.now bounds.now
-        × Counted net.now found × (saved.0 ≤ total_of net.now) × (left ≤ 16) × (place ≤ 64) }
-    ensures { result ≡ false → Barren net.now found.spent found.saved.0 saved.0 (place + 1)
-        left }
-{
-    goes_on(net, bounds, saved, place + 1, left, found)
-}
-
-// The next place from `from` on that the set may get, unless the set is not to be extended from there on.
-fn next_place(
-    net: &Network,
-    relations: &[u64; 4225],
-    bounds: &[u64; 1105],
-    outlook: &[u64; 195],
-    set: &[u64; 16],
-    current: Current,
-    pending: usize,
-    from: usize,
-    left: usize,
-    found: Progress,
-) -> usize
-    requires { Seeking net.now relations.now bounds.now outlook.now set.now current pending from left
-        found }
-    ensures { Sought net.now (take current.size set.now) current.saved.0 from
-        left found result }
-{
-    let mut place = from;
-    while goes_on(net, bounds, current.saved, place, left, found) {
-        if may_get(net, relations, outlook, set, current, pending, place) {
-            return place;
+impl Course {
+    // Whether the set with one more place is allowed.
+    fn may_get(
+        &self,
+        tables: &Tables,
+        current: Current,
+        pending: Option<usize>,
+        place: usize,
+    ) -> bool
+        requires { TryingIn tables.now self.now current pending place }
+        ensures { result ≡ allowed tables.now.net.now (self.now.members.items ++ (place ∷ [])) }
+    {
+        let net = tables.net;
+        let in_series = self.choice(tables, pending).in_series(place);
+        let series = net.head().series;
+        if series <= in_series {
+            return false;
         }
-        place += 1;
+        let cost = cost_with(net, current, place);
+        let hours = hours_with(net, current, place);
+        within_means(net, cost, hours)
     }
-    place
-}
 
-// The next place after `place` that the set may get, unless the set is not to be extended from there on.
-fn next_after(
-    net: &Network,
-    relations: &[u64; 4225],
-    bounds: &[u64; 1105],
-    outlook: &[u64; 195],
-    set: &[u64; 16],
-    current: Current,
-    pending: usize,
-    place: usize,
-    left: usize,
-    found: Progress,
-) -> usize
-    requires { Seeking net.now relations.now bounds.now outlook.now set.now current pending (place + 1)
-        left found }
-    ensures { Sought net.now (take current.size set.now) current.saved.0
-        (place + 1) left found result }
-{
-    let from = place + 1;
-    next_place(
-        net, relations, bounds, outlook, set, current, pending, from, left, found,
-    )
-}
-
-// Extends the current set, which may get `left` more places, by each of the places from `from` on in rising order.
-fn extend(
-    net: &Network,
-    relations: &[u64; 4225],
-    ends: &[u64; 65],
-    lists: &[u64; 4225],
-    sums: &[u64; 768],
-    bounds: &[u64; 1105],
-    outlook: &mut [u64; 195],
-    rows: &mut [u64; 3120],
-    set: &mut [u64; 16],
-    best: &mut [u64; 16],
-    current: Current,
-    from: usize,
-    left: usize,
-    progress: Progress,
-) -> Progress
-    requires { Extending net.now relations.now ends.now lists.now sums.now bounds.now outlook.old
-        rows.old set.old current from left × (length best.old ≡ 16) × Counted net.now progress }
-    ensures { Left net.now (extended net.now left
-        (take current.size set.old) from (found_in net.now progress best.old))
-        current.size result outlook.old outlook.new rows.old rows.new set.old
-        set.new best.new }
-{
-    let size = current.size;
-    let mut found = progress;
-    let mut pending = current.last;
-    let mut place = next_place(
-        net, relations, bounds, outlook, set, current, pending, from, left, found,
-    );
-    while goes_on(net, bounds, current.saved, place, left, found) {
-        let next = with_place(
-            net, relations, ends, sums, outlook, set, current, pending, place,
-        );
-        set[size] = place as u64;
-        found = visit(net, set, size + 1, next.saved, best, found);
-        if goes_deeper(net, bounds, next.saved, place, left - 1, found) {
-            prospects::enter_once(
-                net, relations, ends, lists, outlook, rows, set, size, pending,
-            );
-            pending = 0;
-            found = extend(
-                net,
-                relations,
-                ends,
-                lists,
-                sums,
-                bounds,
-                outlook,
-                rows,
-                set,
-                best,
-                next,
-                place + 1,
-                left - 1,
-                found,
-            );
-        }
-        place = next_after(
-            net, relations, bounds, outlook, set, current, pending, place, left, found,
-        );
-    }
-    if pending != current.last {
-        prospects::leave(lists, outlook, rows, size, current.last);
-    }
-    found
-}
-
-// A walk before its first visit.
-fn begin() -> Progress
-    ensures { result ≡ begun }
-{
-    Progress {
-        saved: Total::ZERO,
-        count: 0,
-        visits: 0,
-        spent: false,
-    }
-}
-
-// The search: the empty set, which saves nothing, is visited first, then it is extended by at most `adds` of the places.
-pub fn walk(
-    net: &Network,
-    relations: &[u64; 4225],
-    ends: &[u64; 65],
-    lists: &[u64; 4225],
-    sums: &[u64; 768],
-    bounds: &[u64; 1105],
-    outlook: &mut [u64; 195],
-    rows: &mut [u64; 3120],
-    set: &mut [u64; 16],
-    best: &mut [u64; 16],
-) -> Progress
-    requires { Starting net.now relations.now ends.now lists.now sums.now bounds.now outlook.old
-        rows.old set.old best.old }
-    ensures { (found_in net.now result best.new ≡ search net.now)
-        × (length best.new ≡ 16) × (result.count ≤ 16) }
-{
-    let first = visit(net, set, 0, Total::ZERO, best, begin());
-    extend(
-        net,
-        relations,
-        ends,
-        lists,
-        sums,
-        bounds,
-        outlook,
-        rows,
-        set,
-        best,
+    // The set with one more place.
+    fn with_place(
+        &self,
+        tables: &Tables,
+        current: Current,
+        pending: Option<usize>,
+        place: usize,
+    ) -> Current
+        requires { TryingIn tables.now self.now current pending place
+            × HoldsCustomers tables.now.net.now tables.now.behind.now }
+        ensures { Next tables.now.net.now self.now.members.items current place result }
+    {
+        let net = tables.net;
+        let fall = self.choice(tables, pending).fall(place);
         Current {
-            size: 0,
-            last: 0,
+            last: Some(place),
+            saved: current.saved + fall,
+            cost: cost_with(net, current, place),
+            hours: hours_with(net, current, place),
+        }
+    }
+}
+
+impl Course {
+    // A visit of the set is due, which saves so much. At the limit the walk is spent. Else the visit is counted, and the set is best
+    // if it saves more.
+    fn visit(&mut self, net: &Network, saved: Total)
+        requires { (saved.0 + set_total net.now self.old.members.items ≡ total_of net.now)
+            × (length self.old.members.items ≤ 16) × Counted net.now self.old.progress }
+        ensures { Visits net.now self.old self.new }
+    {
+        if self.progress.visits == net.head().visits {
+            self.progress.spent = true;
+            return;
+        }
+        self.progress.visits += 1;
+        let better = saves_less(self.progress.saved, saved);
+        if better {
+            copy_members(&self.members, &mut self.progress.best);
+            self.progress.saved = saved;
+        }
+    }
+
+    // The set without its last member gets its own outlook, if the outlook is still without `pending`.
+    fn enter(&mut self, tables: &Tables, pending: Option<usize>)
+        requires { Entering tables.now self.old pending }
+        ensures { OwnNow tables.now pending self.old self.new }
+    {
+        let size = self.members.len() - 1;
+        if let Some(last) = pending {
+            self.prospects.enter(tables, &self.members[..size], last);
+        }
+    }
+
+    // Undoes what entering the set changed, if it was entered: if nothing is pending of a set with a last member.
+    fn leave(&mut self, tables: &Tables, last: Option<usize>, pending: Option<usize>)
+        requires { Leaving tables.now last pending self.old }
+        ensures { UndoneIn tables.now last pending self.old self.new }
+    {
+        if let Some(last) = last {
+            if pending.is_none() {
+                self.prospects
+                    .leave(tables.relations, self.members.len(), last);
+            }
+        }
+    }
+}
+
+// A walk over the sets of places of a file: what it reads.
+#[derive(Clone, Copy)]
+pub struct Walk<'a> {
+    pub tables: Tables<'a>,
+    pub bounds: &'a Bounds,
+}
+
+impl<'a> Walk<'a> {
+    // Whether a set that saves so much is to be extended by places from `from` on: it may get `left`, some are left, the walk is not
+    // spent, and by the bound they may do better than the best.
+    fn goes_on(&self, progress: &Progress, saved: Total, from: usize, left: usize) -> bool
+        requires { Weighing self.now progress.now saved.0 left × (1 ≤ from) }
+        ensures barren { result ≡ false → BarrenIn self.now progress.now saved.0 from left }
+        ensures promising { result ≡ true → PromisingIn self.now progress.now saved.0 from left }
+    {
+        let full = left == 0;
+        if full {
+            return false;
+        }
+        if self.tables.net.place_count() < from {
+            return false;
+        }
+        if progress.spent {
+            return false;
+        }
+        let more = self.bounds.most_saved(left, from);
+        saved.can_pass(more, progress.saved)
+    }
+
+    // Whether a set whose last member is `place` is to be extended, by `left` more places.
+    fn goes_deeper(&self, progress: &Progress, saved: Total, place: usize, left: usize) -> bool
+        requires { Weighing self.now progress.now saved.0 left × (place ≤ 64) }
+        ensures { result ≡ false → BarrenIn self.now progress.now saved.0 (place + 1) left }
+    {
+        self.goes_on(progress, saved, place + 1, left)
+    }
+
+    // The next place from `from` on that the set may get, unless the set is not to be extended from there on. A walk spends much of
+    // its time here.
+    #[inline]
+    fn next_place(
+        &self,
+        course: &Course,
+        current: Current,
+        pending: Option<usize>,
+        from: usize,
+        left: usize,
+    ) -> Option<usize>
+        requires { SeekingIn self.now course.now current pending from left }
+        ensures { Sought self.now.tables.net.now course.now.members.items current.saved.0 from left course.now.progress result }
+    {
+        // a copy, so that what is read stays at hand through the loop
+        let walk = *self;
+        for place in from..walk.tables.net.place_count() + 1 {
+            if !walk.goes_on(&course.progress, current.saved, place, left) {
+                return None;
+            }
+            if course.may_get(&walk.tables, current, pending, place) {
+                return Some(place);
+            }
+        }
+        None
+    }
+
+    // The next place after `place` that the set may get, unless the set is not to be extended from there on.
+    fn next_after(
+        &self,
+        course: &Course,
+        current: Current,
+        pending: Option<usize>,
+        place: usize,
+        left: usize,
+    ) -> Option<usize>
+        requires { SeekingIn self.now course.now current pending (place + 1) left }
+        ensures { Sought self.now.tables.net.now course.now.members.items current.saved.0 (place + 1) left course.now.progress result }
+    {
+        let from = place + 1;
+        self.next_place(course, current, pending, from, left)
+    }
+
+    // Extends the set, which may get `left` more places, by each of the places from `from` on in rising order.
+    fn extend(&self, course: &mut Course, current: Current, from: usize, left: usize)
+        requires { Extending self.now course.old current from left }
+        ensures { Left self.now.tables.net.now (extended self.now.tables.net.now left course.old.members.items from
+            (found_in self.now.tables.net.now course.old.progress)) course.old course.new }
+    {
+        let mut pending = current.last;
+        let mut next = self.next_place(course, current, pending, from, left);
+        while let Some(place) = next {
+            let more = course.with_place(&self.tables, current, pending, place);
+            course.members.push(place);
+            course.visit(self.tables.net, more.saved);
+            if self.goes_deeper(&course.progress, more.saved, place, left - 1) {
+                course.enter(&self.tables, pending);
+                pending = None;
+                self.extend(course, more, place + 1, left - 1);
+            }
+            course.members.pop();
+            next = self.next_after(course, current, pending, place, left);
+        }
+        course.leave(&self.tables, current.last, pending);
+    }
+
+    // The search: the empty set, which saves nothing, is visited first, then it is extended by at most `adds` of the places.
+    pub fn run(&self, course: &mut Course)
+        requires { Starting self.now course.old }
+        ensures found { found_in self.now.tables.net.now course.new.progress ≡ search self.now.tables.net.now }
+        ensures few { length course.new.progress.best.items ≤ 16 }
+    {
+        course.members.clear();
+        course.progress = Progress::begin();
+        course.visit(self.tables.net, Total::ZERO);
+        let current = Current {
+            last: None,
             saved: Total::ZERO,
             cost: 0,
             hours: 0,
-        },
-        1,
-        net.head().adds,
-        first,
-    )
+        };
+        self.extend(course, current, 1, self.tables.net.head().adds);
+    }
 }

@@ -1,10 +1,10 @@
 -- The entry of an end: five numbers over the start of a list, if it is a breaker.
-use Prim.Native.Nat.{ℕ, ◌+◌, ◌*◌, ◌-◌, ◌^◌, ◌≤◌, ◌<◌}
+use Prim.Native.Nat.{ℕ, ◌*◌, ◌^◌, ◌≤◌, ◌<◌}
 use mathlib.Core.Path.{◌≡◌, refl, sym, ap₂, ◌∙◌}
 use mathlib.Core.Bool.{true, false}
 use mathlib.Core.List.{List, [], ◌∷◌}
 use native.Mathlib.Omega.{arith}
-use lib.ListN.{length, get_or, drop, set}
+use lib.ListN.{length, drop, set}
 use Rattle.model.specs.Network.{Network}
 use Rattle.model.specs.Paths.{End, is_breaker}
 use Rattle.model.specs.Outage.{customers_behind}
@@ -12,9 +12,12 @@ use Rattle.model.specs.Segments.{weight_tripped, segment_amount, segment}
 use Rattle.theory.specs.Sizes.{read-sized}
 use Rattle.theory.specs.Segments.{segment_amount-size}
 use Rattle.theory.specs.Ends.{breaker-closed}
-use Rattle.network.specs.There.{end_in}
+use Rattle.network.specs.There.{LineThere}
+use Rattle.outage.specs.declared.Behind.{Behind}
+use Rattle.outage.specs.Held.{customers_in}
 use Rattle.outage.proofs.Paths.{behind-line}
-use Rattle.segments.specs.Entries.{Summed, entry_of}
+use Rattle.segments.specs.declared.Weights.{Weights}
+use Rattle.segments.specs.Entries.{weight_in, Summed, entry_of}
 
 pub five : (b : List ℕ) (v w x y z : ℕ) → 5 ≤ length b → set (set (set (set (set b 0 v) 1 w) 2 x) 3 y) 4 z ≡ v ∷ w ∷ x ∷ y ∷ z ∷ drop 5 b
 five [] v w x y z h = absurd (omega arith)
@@ -24,21 +27,17 @@ five (a ∷ b ∷ c ∷ []) v w x y z h = absurd (omega arith)
 five (a ∷ b ∷ c ∷ d ∷ []) v w x y z h = absurd (omega arith)
 five (a ∷ b ∷ c ∷ d ∷ e ∷ rest) v w x y z h = refl
 
-module _ (N : Network) (l side : ℕ) where
-  abbrev e : End
-  e = end_in l side
-
+module _ (N : Network) (e : End) where
   -- an end that is no breaker has no entry
   pub entry-none : is_breaker N e ≡ false → entry_of N e ≡ []
   entry-none h = λ i. elim (h i) [ true ↦ segment N e | false ↦ [] ]
 
-  module _ (sums weights : List ℕ) (a : Summed N sums weights) (low : 1 ≤ l) (high : l ≤ length N.lines) (h : is_breaker N e ≡ true)
-      (w c : ℕ) (p : w ≡ get_or weights (2 * l + side - 2) 0) (q : c ≡ get_or sums (l - 1) 0) where
+  module _ (b : Behind) (v : Weights) (a : Summed N b v) (l : LineThere N e.line) (h : is_breaker N e ≡ true) (w c : ℕ) (p : w ≡ weight_in v e) (q : c ≡ customers_in b e.line) where
     weight_is : w ≡ weight_tripped N e
     weight_is = p ∙ a.tripped e h
 
     customers-is : c ≡ customers_behind N e
-    customers-is = q ∙ a.behind l low high ∙ sym (behind-line N a.accepted.read a.accepted.rules e (breaker-closed N e h))
+    customers-is = q ∙ a.behind e.line l ∙ sym (behind-line N a.accepted.read a.accepted.rules e (breaker-closed N e h))
 
     amount-is : w * c ≡ segment_amount N e
     unfolding segment_amount
@@ -49,6 +48,6 @@ module _ (N : Network) (l side : ℕ) where
     amount-fits = omega (arith, amount-is, segment_amount-size N (read-sized N a.accepted.read) e)
 
     -- the entry of a breaker
-    pub entry-is : ◌≡◌ {A = List ℕ} (l ∷ side ∷ w ∷ c ∷ w * c ∷ []) (entry_of N e)
+    pub entry-is : (line side : ℕ) → line ≡ e.line → side ≡ e.side → ◌≡◌ {A = List ℕ} (line ∷ side ∷ w ∷ c ∷ w * c ∷ []) (entry_of N e)
     unfolding segment
-    entry-is = (λ i. l ∷ side ∷ weight_is i ∷ customers-is i ∷ amount-is i ∷ []) ∙ (λ i. elim (sym h i) [ true ↦ segment N e | false ↦ [] ])
+    entry-is line side m n = (λ i. m i ∷ n i ∷ weight_is i ∷ customers-is i ∷ amount-is i ∷ []) ∙ (λ i. elim (sym h i) [ true ↦ segment N e | false ↦ [] ])

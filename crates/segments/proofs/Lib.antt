@@ -1,3 +1,3 @@
-pub mod Weights
+pub mod Gathering
 pub mod Entry
 pub mod Table

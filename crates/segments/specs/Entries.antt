@@ -6,10 +6,15 @@ use Rattle.model.specs.Segments.{weight_tripped, segment}
 use Rattle.theory.specs.Best.{Accepted}
 use Rattle.tree.specs.Linked.{end_code}
 use Rattle.outage.specs.Held.{HoldsCustomers}
+use Rattle.outage.specs.declared.Behind.{Behind}
+use Rattle.segments.specs.declared.Weights.{Weights}
 
--- the weights of the lines that each breaker trips for, by the end's code
-abbrev pub HoldsWeights : Network → List ℕ → Type 0
-HoldsWeights N weights = (e : End) → is_breaker N e ≡ true → get_or weights (end_code e) 0 ≡ weight_tripped N e
+-- the weight of the lines that a breaker trips for, by its code
+abbrev pub weight_in : Weights → End → ℕ
+weight_in w e = get_or w.by_code (end_code e) 0
+
+abbrev pub HoldsWeights : Network → Weights → Type 0
+HoldsWeights N w = (e : End) → is_breaker N e ≡ true → weight_in w e ≡ weight_tripped N e
 
 -- the entry of an end: none, if it is no breaker
 abbrev pub entry_of : Network → End → List ℕ
@@ -19,7 +24,7 @@ abbrev pub entries_of : Network → ℕ → List ℕ
 entries_of N l = entry_of N (end1 l) ++ entry_of N (end2 l)
 
 -- what the entries are made of: an accepted network, the customers behind each line and the weights of each breaker
-pub record Summed (N : Network) (sums weights : List ℕ) : Type 0 where
+pub record Summed (N : Network) (b : Behind) (w : Weights) : Type 0 where
   pub accepted : Accepted N
-  pub behind : HoldsCustomers N sums
-  pub tripped : HoldsWeights N weights
+  pub behind : HoldsCustomers N b
+  pub tripped : HoldsWeights N w

@@ -1,62 +1,68 @@
 // The segment table groups the lines by the breaker that trips for them: an entry a breaker, with the weight of its lines, the
-// customers that it cuts off and their outage amount. An end has a code: 1 and 2 are the ends of line 1, 3 and 4 those of line 2.
+// customers that it cuts off and their outage amount.
 #![tactic(auto)]
 
-ghost use Rattle.std.specs.Prelude.{◌≡◌, ◌∷◌, ◌+◌, ◌*◌, ◌-◌, ◌^◌, ◌≤◌, ◌<◌, length, get_or, drop};
+ghost use Rattle.std.specs.Prelude.{◌≡◌, ◌∷◌, ◌+◌, ◌*◌, ◌^◌, ◌≤◌, ◌<◌, length, drop};
 ghost use Rattle.model.specs.Paths.{is_breaker};
 ghost use Rattle.model.specs.Segments.{breaker_ends, segment_table};
 ghost use Rattle.theory.specs.Best.{Accepted};
-ghost use Rattle.network.specs.There.{EndThere, LineThere, end_in};
-ghost use Rattle.paths.specs.Held.{HoldsTrips};
+ghost use Rattle.network.specs.There.{LineThere};
+ghost use Rattle.tree.specs.Linked.{LineHeld, end_code};
+ghost use Rattle.paths.specs.Held.{trip_in, HoldsPaths};
 ghost use Rattle.outage.specs.Held.{HoldsCustomers};
 ghost use Rattle.text.specs.Over.{over, Written};
-ghost use Rattle.segments.specs.Entries.{HoldsWeights, Summed, entry_of, entries_of};
+ghost use Rattle.segments.specs.Entries.{weight_in, HoldsWeights, Summed, entry_of, entries_of};
 
 use amounts::{Customers, Weight};
-use network::Network;
+use network::{End, Network, Side};
+use outage::Behind;
+use paths::Paths;
 
-// The code of the breaker that trips for line i + 1.
-fn trip_code(trips: &[u64; 768], i: usize) -> usize
-    requires { i < 768 }
-    ensures { result ≡ get_or trips.now i 0 }
+// The code of the breaker that trips for a line.
+fn trip_code(paths: &Paths, line: usize) -> usize
+    requires { LineHeld line × LineHeld (trip_in paths.now line).line }
+    ensures value { result ≡ end_code (trip_in paths.now line) }
+    ensures few { result ≤ 1536 }
 {
-    trips[i] as usize
+    let trip = paths.trip(line);
+    tree::code(trip)
 }
 
-// The weights of the lines that each breaker trips for, by the end's code.
-fn weights_tripped(net: &Network, trips: &[u64; 768], weights: &mut [u64; 1537])
-    requires { Accepted net.now × HoldsTrips net.now trips.now }
-    ensures { HoldsWeights net.now weights.new }
-{
-    marks::clear(weights);
-    for i in 0..net.line_count() {
-        let code = trip_code(trips, i);
-        weights[code] = weights[code] + net.weight(i + 1);
+// The weights of the lines that each breaker trips for, by the code of its end.
+#[derive(Drop)]
+struct Weights {
+    by_code: [u64; 1537],
+}
+
+impl Weights {
+    // The weights of a network's lines.
+    fn of(net: &Network, paths: &Paths) -> Weights
+        requires { Accepted net.now × HoldsPaths net.now paths.now }
+        ensures { HoldsWeights net.now result }
+    {
+        let mut weights = Weights { by_code: [0; 1537] };
+        for line in 1..net.line_count() + 1 {
+            let code = trip_code(paths, line);
+            weights.by_code[code] += net.weight(line);
+        }
+        weights
+    }
+
+    // The weights of the lines that a breaker trips for.
+    fn at(&self, end: End) -> Weight
+        requires { LineHeld end.line }
+        ensures { result.0 ≡ weight_in self.now end }
+    {
+        Weight(self.by_code[tree::code(end)])
     }
 }
 
-// The weights of the lines that a breaker trips for.
-fn breaker_weight(weights: &[u64; 1537], line: usize, side: usize) -> Weight
-    requires { (1 ≤ line) × (line ≤ 768) × (1 ≤ side) × (side ≤ 2) }
-    ensures { result.0 ≡ get_or weights.now (2 * line + side - 2) 0 }
-{
-    Weight::new(weights[2 * line + side - 2])
-}
-
-// The customers behind a line.
-fn line_customers(sums: &[u64; 768], line: usize) -> Customers
-    requires { (1 ≤ line) × (line ≤ 768) }
-    ensures { result.0 ≡ get_or sums.now (line - 1) 0 }
-{
-    Customers::new(sums[line - 1])
-}
-
 // Whether an end has an entry: every breaker has one, whatever it trips for.
-fn has_entry(net: &Network, line: usize, side: usize) -> bool
-    requires { EndThere net.now line side }
-    ensures { result ≡ is_breaker net.now (end_in line side) }
+fn has_entry(net: &Network, end: End) -> bool
+    requires { LineThere net.now end.line }
+    ensures { result ≡ is_breaker net.now end }
 {
-    net.is_breaker(line, side)
+    net.is_breaker(end)
 }
 
 // An entry at the start of a table.
@@ -67,76 +73,85 @@ fn put_entry(table: &mut [u64], line: u64, side: u64, weight: Weight, customers:
 {
     table[0] = line;
     table[1] = side;
-    table[2] = weight.number();
-    table[3] = customers.number();
-    table[4] = amounts::times(weight, customers).number();
+    table[2] = weight.0;
+    table[3] = customers.0;
+    table[4] = (weight * customers).into();
 }
 
-// The entry of an end, if it has one, at the start of a table; answers how many numbers it has.
-fn put_end(
-    net: &Network,
-    sums: &[u64; 768],
-    weights: &[u64; 1537],
-    line: usize,
-    side: usize,
-    table: &mut [u64],
-) -> usize
-    requires ready { Summed net.now sums.now weights.now × EndThere net.now line side }
-    requires room { 5 ≤ length table.old }
-    ensures written { Written (entry_of net.now (end_in line side))
-        table.old table.new result }
-    ensures short { result ≤ 5 }
-{
-    if has_entry(net, line, side) {
-        let weight = breaker_weight(weights, line, side);
-        let customers = line_customers(sums, line);
-        put_entry(table, line as u64, side as u64, weight, customers);
-        return 5;
+// What the entries are made of: a network, the customers behind each line and the weights of each breaker.
+#[derive(Clone, Copy)]
+struct Entries<'a> {
+    net: &'a Network,
+    behind: &'a Behind,
+    weights: &'a Weights,
+}
+
+impl Entries<'_> {
+    // The entry of an end, if it has one, at the start of a table; answers how many numbers it has.
+    fn put_end(&self, end: End, table: &mut [u64]) -> usize
+        requires ready { Summed self.now.net.now self.now.behind.now self.now.weights.now × LineThere self.now.net.now end.line }
+        requires room { 5 ≤ length table.old }
+        ensures written { Written (entry_of self.now.net.now end) table.old table.new result }
+        ensures short { result ≤ 5 }
+    {
+        if has_entry(self.net, end) {
+            let weight = self.weights.at(end);
+            let customers = Customers(self.behind.customers(end.line));
+            put_entry(
+                table,
+                end.line as u64,
+                end.side.number() as u64,
+                weight,
+                customers,
+            );
+            return 5;
+        }
+        0
     }
-    0
+
+    // The entries of a line's ends; answers how many numbers they have.
+    fn put_ends(&self, line: usize, table: &mut [u64]) -> usize
+        requires ready { Summed self.now.net.now self.now.behind.now self.now.weights.now × LineThere self.now.net.now line }
+        requires room { 10 ≤ length table.old }
+        ensures written { Written (entries_of self.now.net.now line) table.old table.new result }
+        ensures short { result ≤ 10 }
+    {
+        let first = End {
+            line,
+            side: Side::One,
+        };
+        let at = self.put_end(first, table);
+        at + self.put_end(first.other(), &mut table[at..])
+    }
+
+    // The entries of all lines, one behind another; answers how many there are.
+    fn put_lines(&self, table: &mut [u64]) -> usize
+        requires ready { Summed self.now.net.now self.now.behind.now self.now.weights.now }
+        requires room { 7680 ≤ length table.old }
+        ensures count { result ≡ length (breaker_ends self.now.net.now) }
+        ensures written { table.new ≡ over (segment_table self.now.net.now) table.old }
+    {
+        let mut at: usize = 0;
+        for line in 1..self.net.line_count() + 1 {
+            at += self.put_ends(line, &mut table[at..]);
+        }
+        at / 5
+    }
 }
 
-// The entries of a line's ends; answers how many numbers they have.
-fn put_ends(
-    net: &Network,
-    sums: &[u64; 768],
-    weights: &[u64; 1537],
-    line: usize,
-    table: &mut [u64],
-) -> usize
-    requires ready { Summed net.now sums.now weights.now × LineThere net.now line }
-    requires room { 10 ≤ length table.old }
-    ensures written { Written (entries_of net.now line) table.old table.new result }
-    ensures short { result ≤ 10 }
-{
-    let at = put_end(net, sums, weights, line, 1, table);
-    at + put_end(net, sums, weights, line, 2, &mut table[at..])
-}
-
-// The entries of all lines, one behind another; answers how many there are.
-fn put_lines(net: &Network, sums: &[u64; 768], weights: &[u64; 1537], table: &mut [u64]) -> usize
-    requires ready { Summed net.now sums.now weights.now }
+// Writes the segment table of an accepted network at the start of a buffer, from the breaker that trips for each line and the
+// customers behind each line; answers how many entries it has.
+pub fn write_table(net: &Network, paths: &Paths, behind: &Behind, table: &mut [u64]) -> usize
+    requires ready { Accepted net.now × HoldsPaths net.now paths.now × HoldsCustomers net.now behind.now }
     requires room { 7680 ≤ length table.old }
     ensures count { result ≡ length (breaker_ends net.now) }
     ensures written { table.new ≡ over (segment_table net.now) table.old }
 {
-    let mut at: usize = 0;
-    for line in 1..net.line_count() + 1 {
-        at = at + put_ends(net, sums, weights, line, &mut table[at..]);
-    }
-    at / 5
-}
-
-// Writes the segment table of an accepted network at the start of a buffer, from the code of the breaker that trips for each line
-// and the customers behind each line; answers how many entries it has.
-pub fn write_table(net: &Network, trips: &[u64; 768], sums: &[u64; 768], table: &mut [u64]) -> usize
-    requires ready { Accepted net.now
-        × HoldsTrips net.now trips.now × HoldsCustomers net.now sums.now }
-    requires room { 7680 ≤ length table.old }
-    ensures count { result ≡ length (breaker_ends net.now) }
-    ensures written { table.new ≡ over (segment_table net.now) table.old }
-{
-    let mut weights = [0u64; 1537];
-    weights_tripped(net, trips, &mut weights);
-    put_lines(net, sums, &weights, table)
+    let weights = Weights::of(net, paths);
+    let entries = Entries {
+        net,
+        behind,
+        weights: &weights,
+    };
+    entries.put_lines(table)
 }

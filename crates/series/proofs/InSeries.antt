@@ -1,13 +1,13 @@
 -- The most breakers in series, by the paths of the stations that the lines feed, and the series rule.
-use Prim.Native.Nat.{ℕ, suc, ◌+◌, ◌-◌, ◌≤◌, ◌<◌}
+use Prim.Native.Nat.{ℕ, suc, ◌+◌, ◌≤◌, ◌<◌}
 use mathlib.Core.Path.{◌≡◌, refl, sym, ap, ◌∙◌}
 use mathlib.Core.Bool.{Bool, true, false, true≢false}
-use mathlib.Core.Logic.{◌⊎◌, ⊎_elim}
-use mathlib.Core.List.{List, []}
+use mathlib.Core.Logic.{⊎_elim}
+use mathlib.Core.List.{[]}
 use native.Mathlib.Decide.{ℕ_discrete}
 use native.Mathlib.Omega.{arith}
 use lib.Dec.{ltb}
-use lib.ListN.{length, get_or}
+use lib.ListN.{length}
 use borrow.Author.Tests.{ltb-true, ltb-false}
 use Rattle.model.specs.Network.{Network}
 use Rattle.model.specs.Paths.{Vertex, station, line, is_breaker, station_at}
@@ -20,15 +20,19 @@ use Rattle.theory.specs.Ends.{breaker-closed, closed-end}
 use Rattle.theory.specs.Radial.{Rules, In, listed-vertex, station-in}
 use Rattle.theory.specs.Above.{breakers-count, series-above}
 use Rattle.theory.specs.Behind.{far, vertices, listed_in}
-use Rattle.network.specs.There.{LineThere, end_in}
+use Rattle.network.specs.There.{LineThere}
+use Rattle.tree.specs.Linked.{LineHeld}
+use Rattle.tree.specs.Held.{near_in, HoldsTree}
+use Rattle.tree.specs.declared.Tree.{Tree}
 use Rattle.tree.specs.Outwards.{near_end}
 use Rattle.tree.proofs.Near.{hv-or-fed}
 use Rattle.sets.specs.InSeries.{most, most-of, most-less}
 use Rattle.sets.specs.Sets.{route}
-use Rattle.paths.specs.Held.{HoldsSides, HoldsCounts}
+use Rattle.paths.specs.Held.{count_in, HoldsPaths}
+use Rattle.paths.specs.declared.Paths.{Paths}
 use Rattle.paths.specs.Meets.{far_route}
 use Rattle.series.specs.Series.{most_in_series}
-use Rattle.paths.proofs.FarEnds.{far-path, fed-path, far-is}
+use Rattle.paths.proofs.FarEnds.{far-path, fed-path}
 use Rattle.paths.proofs.Meeting.{breakers-next}
 use Rattle.paths.proofs.Passing.{route-short}
 
@@ -86,26 +90,21 @@ module _ (N : Network) (d : Read N) (r : Rules N) where
         most-less (λ v. true) (λ v. breakers_on N (path_to_hv N v)) (suc N.head.series) (omega arith) (vertices N) (λ v m _. omega (arith, (series-above N d r).0 p v (listed_in N v m))),
       ))
 
--- ── by the buffers ──
-module _ (b : Network) (sides : List ℕ) (d : Read b) (r : Rules b) (h : HoldsSides b sides) (l : ℕ) (t : LineThere b l)
-    (counts : List ℕ) (k : HoldsCounts b counts) where
-  abbrev N : Network
-  N = b
+-- ── by the tree and the paths ──
+module _ (N : Network) (t : Tree) (p : Paths) (d : Read N) (r : Rules N) (o : HoldsTree N t) (h : HoldsPaths N p) (l : ℕ) (a : LineThere N l) where
+  pub line-held : LineHeld l
+  line-held = record { low = a.low; high = omega (arith, a.high, o.lines) }
 
-  -- the number of the far end
-  abbrev side : ℕ
-  side = 3 - get_or sides (l - 1) 0
-
-  pub count-few : get_or counts (l - 1) 0 ≤ 1536
+  pub count-few : count_in p l ≤ 1536
   unfolding breakers_on
-  count-few = omega (arith, k l t.low t.high, keep-length (λ e. is_breaker N e) (route N l), route-short N d r l t.low t.high)
+  count-few = omega (arith, h.counts l a, keep-length (λ e. is_breaker N e) (route N l), route-short N d r l a.low a.high)
 
   -- the breakers on the line's path, and the far end if that is one
-  counted : breakers_on N (far_route N l) ≡ on (is_breaker N (end_in l side)) 1 + get_or counts (l - 1) 0
-  counted = omega (arith, breakers-next N (far (near_end N l)) (route N l), ap (λ e. on (is_breaker N e) 1) (far-is b sides d r h l t), k l t.low t.high)
+  counted : breakers_on N (far_route N l) ≡ on (is_breaker N (far (near_in t l))) 1 + count_in p l
+  counted = omega (arith, breakers-next N (far (near_end N l)) (route N l), ap (λ e. on (is_breaker N (far e)) 1) (o.nears l a), h.counts l a)
 
-  pub counted-far : is_breaker N (end_in l side) ≡ true → get_or counts (l - 1) 0 + 1 ≡ breakers_on N (far_route N l)
-  counted-far s = let o : on (is_breaker N (end_in l side)) 1 ≡ 1 = ap (λ b. on b 1) s in omega (arith, counted, o)
+  pub counted-far : is_breaker N (far (near_in t l)) ≡ true → count_in p l + 1 ≡ breakers_on N (far_route N l)
+  counted-far s = let o : on (is_breaker N (far (near_in t l))) 1 ≡ 1 = ap (λ b. on b 1) s in omega (arith, counted, o)
 
-  pub counted-line : is_breaker N (end_in l side) ≡ false → get_or counts (l - 1) 0 ≡ breakers_on N (far_route N l)
-  counted-line s = let o : on (is_breaker N (end_in l side)) 1 ≡ 0 = ap (λ b. on b 1) s in omega (arith, counted, o)
+  pub counted-line : is_breaker N (far (near_in t l)) ≡ false → count_in p l ≡ breakers_on N (far_route N l)
+  counted-line s = let o : on (is_breaker N (far (near_in t l))) 1 ≡ 0 = ap (λ b. on b 1) s in omega (arith, counted, o)

@@ -1,11 +1,11 @@
 pub mod Numbers
 pub mod OnEnds
-pub mod Gathering
-pub mod UnderPlaces
-pub mod Weighing
 pub mod FirstPlaces
+pub mod UnderPlaces
+pub mod Gathering
+pub mod Weighing
+pub mod Series
+pub mod Stopping
 pub mod FarStations
 pub mod Raising
-pub mod Series
 pub mod FirstOutlook
-pub mod Stopping

@@ -1,14 +1,13 @@
 -- The place where a line's path first meets a breaker or a place, by its first place and the breakers that trip for the line and
 -- for what lies behind the place.
-use Prim.Native.Nat.{ℕ, ◌-◌, ◌≤◌}
+use Rattle.std.specs.Prelude.{None, Some}
+use Prim.Native.Nat.{ℕ, ◌≤◌}
 use mathlib.Core.Path.{◌≡◌, sym, ap, ◌∙◌, fun_ext}
 use mathlib.Core.Bool.{Bool, true, false, ◌&&◌, or-false}
-use mathlib.Core.Logic.{◌≢◌, ⊎_elim}
-use mathlib.Core.List.{List, []}
+use mathlib.Core.Logic.{⊎_elim}
+use mathlib.Core.List.{[]}
 use native.Mathlib.Omega.{arith}
-use lib.Dec.{eqb}
-use lib.ListN.{length, get_or}
-use borrow.Author.Tests.{eq-eqb, ne_eqb}
+use lib.ListN.{length}
 use Rattle.model.specs.Lists.{any, first_or}
 use Rattle.model.specs.Network.{Network}
 use Rattle.model.specs.Paths.{End, same_end, is_breaker}
@@ -20,20 +19,20 @@ use Rattle.savings.specs.Totals.{breakers_with}
 use Rattle.theory.specs.Ends.{in-numbers}
 use Rattle.theory.specs.Best.{Accepted}
 use Rattle.network.specs.There.{LineThere, PlaceThere}
-use Rattle.tree.specs.Linked.{end_code}
 use Rattle.sets.specs.Ways.{has, covers, covers-is, first_on}
 use Rattle.sets.specs.Onward.{onward}
-use Rattle.sets.specs.Stops.{first_place, stop_is}
+use Rattle.sets.specs.Stops.{first_place, first_stop, stop_is}
 use Rattle.sets.specs.Sets.{route, upstream_at, no-breaker, line-ways}
 use Rattle.sets.specs.Apart.{place_ends}
 use Rattle.sets.specs.Start.{place-free-of, no_place}
-use Rattle.marks.specs.Held.{place_on}
+use Rattle.marks.specs.Held.{optional, place_on}
 use Rattle.marks.proofs.PlaceOn.{Placed, place-or-none, no-end-unplaced, breaker-unplaced}
-use Rattle.paths.specs.Held.{HoldsTrips, HoldsFirsts}
+use Rattle.paths.specs.Held.{trip_in, first_in, HoldsPaths, HoldsFirsts}
+use Rattle.paths.specs.declared.Paths.{Paths}
+use Rattle.paths.specs.declared.Firsts.{Firsts}
 use Rattle.starts.specs.Own.{stop_of}
-use Rattle.starts.proofs.OnEnds.{first-cases, on-most}
-use Rattle.starts.proofs.UnderPlaces.{breaker-codes}
-use Rattle.starts.proofs.FirstOutlook.{trip-upstream, place-line}
+use Rattle.starts.proofs.OnEnds.{none-number, some-number, first-cases, on-most}
+use Rattle.starts.proofs.UnderPlaces.{trip-upstream}
 
 module _ (N : Network) (a : Accepted N) (l : ℕ) (i : 1 ≤ l) (j : l ≤ length N.lines) where
   abbrev B : End → Bool
@@ -64,57 +63,46 @@ module _ (N : Network) (a : Accepted N) (l : ℕ) (i : 1 ≤ l) (j : l ≤ lengt
 
   module _ (g : Placed N s) where
     -- the first place's breaker would trip for the line where one breaker trips for both now
-    covered : (has s (place_ends N) && covers B s (route N l)) ≡ eqb (end_code (tripped N l)) (end_code (upstream_at N [] s))
+    covered : (has s (place_ends N) && covers B s (route N l)) ≡ same_end (tripped N l) (upstream_at N [] s)
     covered =
         (λ t. g.listed t && covers-is (onward N) B s (no-breaker N [] tt) (place-free-of N a s g.listed) (route N l) (line-ways N a.read a.rules l (in-numbers l 1 (length N.lines) i (omega (arith, j)))) t)
         ∙ ap (λ b. b && same_end e (upstream_at N [] s)) (first_on (λ d. has d (place_ends N)) (no_place N a) (route N l) g.listed)
-        ∙ sym (breaker-codes N (route N l) (onward N s))
-        ∙ ap (λ d. eqb (end_code d) (end_code (upstream_at N [] s))) trip-is
+        ∙ ap (λ d. same_end d (upstream_at N [] s)) trip-is
 
-    pub stop-place : end_code (tripped N l) ≡ end_code (upstream_at N [] s) → place_on N s ≡ stop_of N l
-    stop-place q = sym (stops true (covered ∙ eq-eqb _ _ q))
+    pub stop-place : same_end (tripped N l) (upstream_at N [] s) ≡ true → place_on N s ≡ stop_of N l
+    stop-place q = sym (stops true (covered ∙ q))
 
-    pub stop-breaker : end_code (tripped N l) ≢ end_code (upstream_at N [] s) → 0 ≡ stop_of N l
-    stop-breaker q = sym (stops false (covered ∙ ne_eqb _ _ q) ∙ none-there)
+    pub stop-breaker : same_end (tripped N l) (upstream_at N [] s) ≡ false → 0 ≡ stop_of N l
+    stop-breaker q = sym (stops false (covered ∙ q) ∙ none-there)
 
--- ── by the buffers ──
-module _ (b : Network) (trips firsts : List ℕ) (a : Accepted b) (t : HoldsTrips b trips) (f : HoldsFirsts b firsts) (l : ℕ) (u : LineThere b l) where
-  abbrev M : Network
-  M = b
+  pub stop-few : stop_of N l ≤ 64
+  stop-few = omega (arith, on-most N (first_stop B (place_ends N) (route N l)), a.read.place_count)
+
+-- ── by the paths ──
+module _ (N : Network) (a : Accepted N) (paths : Paths) (firsts : Firsts) (t : HoldsPaths N paths) (f : HoldsFirsts N firsts) (l : ℕ) (u : LineThere N l) where
+  abbrev start : End
+  start = first_place (place_ends N) (route N l)
+
+  pub stop-without : first_in firsts l ≡ None → None ≡ optional (stop_of N l)
+  stop-without z = ap optional (stop-none N a l u.low u.high (none-number (place_on N start) (sym (f l u) ∙ z)))
 
   -- the first place on the line's path
-  abbrev p : ℕ
-  p = get_or firsts (l - 1) 0
+  module _ (p : ℕ) (z : first_in firsts l ≡ Some p) where
+    is : (place_on N start ≡ p) × (1 ≤ place_on N start)
+    is = some-number (place_on N start) p (sym (f l u) ∙ z)
 
-  first-is : p ≡ place_on M (first_place (place_ends M) (route M l))
-  first-is = f l u.low u.high
+    placed : Placed N start
+    placed = ⊎_elim (λ n. absurd (omega (arith, n.0, is.1))) (λ g. g) (place-or-none N start)
 
-  pub place-few : p ≤ 64
-  place-few = omega (arith, first-is, on-most M (first_place (place_ends M) (route M l)), a.read.place_count)
+    pub place-there : PlaceThere N p
+    place-there = record { low = omega (arith, is, placed.low); high = omega (arith, is, placed.high) }
 
-  pub path-without : p ≡ 0 → 0 ≡ stop_of M l
-  path-without z = stop-none M a l u.low u.high (sym first-is ∙ z)
+    -- the breakers that trip for the line and for that of the place
+    trips : same_end (trip_in paths l) (trip_in paths (place_at N p).line) ≡ same_end (tripped N l) (upstream_at N [] start)
+    trips = λ i. same_end (t.trips l u i) ((trip-upstream N a p place-there paths t ∙ ap (λ d. upstream_at N [] d) (ap (end_at N) (sym is.0) ∙ placed.is)) i)
 
-  module _ (z : p ≡ 0 → ⊥) where
-    placed : Placed M (first_place (place_ends M) (route M l))
-    placed = ⊎_elim (λ n. absurd (z (first-is ∙ n.0))) (λ g. g) (place-or-none M (first_place (place_ends M) (route M l)))
+    pub same-trip : same_end (trip_in paths l) (trip_in paths (place_at N p).line) ≡ true → Some p ≡ optional (stop_of N l)
+    same-trip q = sym z ∙ f l u ∙ ap optional (stop-place N a l u.low u.high placed (sym trips ∙ q))
 
-    pub place-there : PlaceThere b p
-    place-there = record { low = omega (arith, first-is, placed.low); high = omega (arith, first-is, placed.high) }
-
-    module _ (k : ℕ) (e : k ≡ (place_at M p).line) where
-      pub line-there : (1 ≤ k) × (k ≤ length M.lines)
-      line-there = let x = place-line M a p place-there.low place-there.high in (omega (arith, e, x.0), omega (arith, e, x.1))
-
-      -- the codes of the breakers that trip for the line and for what lies behind the place
-      own : get_or trips (l - 1) 0 ≡ end_code (tripped M l)
-      own = t l u.low u.high
-
-      other : get_or trips (k - 1) 0 ≡ end_code (upstream_at M [] (first_place (place_ends M) (route M l)))
-      other = trip-upstream M a trips t p k place-there.low place-there.high e ∙ ap (λ d. end_code (upstream_at M [] d)) (ap (end_at M) first-is ∙ placed.is)
-
-      pub same-trip : get_or trips (l - 1) 0 ≡ get_or trips (k - 1) 0 → p ≡ stop_of M l
-      same-trip q = first-is ∙ stop-place M a l u.low u.high placed (sym own ∙ q ∙ other)
-
-      pub other-trip : (get_or trips (l - 1) 0 ≡ get_or trips (k - 1) 0 → ⊥) → 0 ≡ stop_of M l
-      other-trip q = stop-breaker M a l u.low u.high placed (λ h. q (own ∙ h ∙ sym other))
+    pub other-trip : same_end (trip_in paths l) (trip_in paths (place_at N p).line) ≡ false → None ≡ optional (stop_of N l)
+    other-trip q = ap optional (stop-breaker N a l u.low u.high placed (sym trips ∙ q))

@@ -1,6 +1,6 @@
 -- The weight of a place before any is chosen, place after place of those under it.
 use Prim.Native.Nat.{ℕ, ◌+◌, ◌≤◌, ◌<◌}
-use mathlib.Core.Path.{◌≡◌, sym, ◌∙◌}
+use mathlib.Core.Path.{◌≡◌, sym, ap, ◌∙◌}
 use mathlib.Core.List.{List, []}
 use native.Mathlib.Omega.{arith}
 use lib.ListN.{length, get_or}
@@ -15,16 +15,14 @@ use Rattle.theory.specs.Best.{Accepted}
 use Rattle.sets.specs.Ways.{covers}
 use Rattle.sets.specs.Sets.{route, weight_at}
 use Rattle.sets.proofs.Start.{start-weight}
-use Rattle.relations.specs.Related.{HoldsRelations}
-use Rattle.starts.specs.Own.{HoldsOwn, HoldsUpstreams, under_in}
+use Rattle.starts.specs.Own.{HoldsOwn, counts_for}
 use Rattle.theory.specs.Gathering.{sum_from, sum-all, sum_first}
 use Rattle.starts.proofs.Gathering.{weights-few}
 use Rattle.starts.proofs.OnEnds.{place_in, in_place}
-use Rattle.starts.proofs.UnderPlaces.{under-is}
 
 -- what place s adds to the weight of place p
-abbrev pub share : List ℕ → List ℕ → List ℕ → ℕ → ℕ → ℕ
-share relations own upstreams p s = on (under_in relations upstreams p s) (get_or own s 0)
+abbrev pub share : Network → List ℕ → ℕ → ℕ → ℕ
+share N own p s = on (counts_for N p s) (get_or own s 0)
 
 -- with what the places from s on add, a weight so far is the whole
 pub weighed-more : (add : ℕ → ℕ) (so_far next s end whole : ℕ) → s < end → next ≡ so_far + add s → so_far + sum_from add s end ≡ whole → next + sum_from add (s + 1) end ≡ whole
@@ -34,12 +32,11 @@ module _ (N : Network) (a : Accepted N) where
   pub weight-few : (e : End) → weight_at N [] e ≤ 768000000
   weight-few e = weights-few N a (λ l. covers (breakers_with N []) e (route N l))
 
-  pub weighed-all : (relations own upstreams : List ℕ) → HoldsRelations N relations → HoldsOwn N own → HoldsUpstreams N upstreams → (p : ℕ) → 1 ≤ p → p ≤ length N.places
-      → sum_from (share relations own upstreams p) 1 (length N.places + 1) ≡ weight_at N [] (end_at N p)
+  pub weighed-all : (own : List ℕ) → HoldsOwn N own → (p : ℕ) → 1 ≤ p → p ≤ length N.places → sum_from (share N own p) 1 (length N.places + 1) ≡ weight_at N [] (end_at N p)
   unfolding place_numbers
-  weighed-all relations own upstreams h o n p i j =
-      sum-all (share relations own upstreams p) (length N.places)
+  weighed-all own o p i j =
+      sum-all (share N own p) (length N.places)
       ∙ sum-ext _ _ (numbers 1 (length N.places)) (λ s m.
       let k = in_place N s m in
-      λ t. on (under-is N a relations h p s i j k.0 k.1 upstreams n t) (o s k.0 k.1 t))
+      ap (on (counts_for N p s)) (o s k.0 k.1))
       ∙ sym (start-weight N a p (place_in N p i j))

@@ -1,19 +1,22 @@
--- What is each place's own, in buffers with a number for each place: the weight of the lines whose path meets the place first, and
+-- What is each place's own, with a number for each place: the weight of the lines whose path meets the place first, and
 -- the most breakers on such a path of a line or a station. And of which places what is their own counts for a place.
-use Rattle.std.specs.Prelude.{ℕ, ◌+◌, ◌*◌, ◌≤◌, ◌≡◌, Bool, true, false, ◌&&◌, ◌||◌, List, [], eqb, length, get_or}
+use Rattle.std.specs.Prelude.{ℕ, ◌≤◌, ◌≡◌, Bool, true, false, ◌||◌, max, Option, None, Some, List, [], eqb, length, get_or, set}
 use Rattle.model.specs.Network.{Network}
-use Rattle.model.specs.Paths.{End, is_open}
+use Rattle.model.specs.Paths.{End, same_end, is_open}
 use Rattle.savings.specs.Breakers.{end_at}
 use Rattle.savings.specs.Totals.{breakers_with}
 use Rattle.theory.specs.Behind.{far}
-use Rattle.tree.specs.Linked.{end_code}
 use Rattle.tree.specs.Outwards.{near_end}
 use Rattle.sets.specs.Stops.{first_stop, first_place}
-use Rattle.sets.specs.Sets.{route, upstream_at}
+use Rattle.sets.specs.Sets.{route, under_at}
 use Rattle.sets.specs.Apart.{place_ends}
 use Rattle.sets.specs.Start.{own_at, own_in_series_at}
 use Rattle.marks.specs.Held.{place_on}
 use Rattle.paths.specs.Meets.{far_route}
+use Rattle.relations.specs.declared.Relation.{Relation}
+use Rattle.relations.specs.declared.Relation.TheVariants.{Apart, Behind, Above}
+use Rattle.relations.specs.declared.Relations.{Relations}
+use Rattle.relations.specs.Related.{between_in}
 
 -- the far end of a line
 abbrev pub far_end : Network → ℕ → End
@@ -35,14 +38,20 @@ HoldsOwn N own = (p : ℕ) → 1 ≤ p → p ≤ length N.places → get_or own 
 abbrev pub HoldsOwnInSeries : Network → List ℕ → Type 0
 HoldsOwnInSeries N in-series = (p : ℕ) → 1 ≤ p → p ≤ length N.places → get_or in-series p 0 ≡ own_in_series_at N (end_at N p)
 
--- the code of the breaker upstream of each place, before any place is chosen
-abbrev pub HoldsUpstreams : Network → List ℕ → Type 0
-HoldsUpstreams N upstreams = (p : ℕ) → 1 ≤ p → p ≤ length N.places → get_or upstreams p 0 ≡ end_code (upstream_at N [] (end_at N p))
+-- the numbers with that of a place, if there is one, raised to at least n
+abbrev pub raised : List ℕ → Option ℕ → ℕ → List ℕ
+raised numbers None n = numbers
+raised numbers (Some p) n = set numbers p (max (get_or numbers p 0) n)
 
 -- by the relations, place s is place p or behind it
-abbrev pub behind_in : List ℕ → ℕ → ℕ → Bool
-behind_in relations p s = eqb s p || eqb (get_or relations (p * 65 + s) 0) 1
+abbrev pub is_behind : Relation → Bool
+is_behind Apart = false
+is_behind Behind = true
+is_behind Above = false
 
--- and the same breaker is upstream of both
-abbrev pub under_in : List ℕ → List ℕ → ℕ → ℕ → Bool
-under_in relations upstreams p s = behind_in relations p s && eqb (get_or upstreams s 0) (get_or upstreams p 0)
+abbrev pub behind_in : Relations → ℕ → ℕ → Bool
+behind_in relations p s = eqb s p || is_behind (between_in relations p s)
+
+-- place s is place p or behind it, with the same breaker upstream of both
+abbrev pub counts_for : Network → ℕ → ℕ → Bool
+counts_for N p s = same_end (end_at N s) (end_at N p) || under_at N [] (end_at N s) (end_at N p)

@@ -2,216 +2,244 @@
 // it.
 #![tactic(auto)]
 
-ghost use Rattle.std.specs.Prelude.{◌≡◌, [], length, ◌≤◌, ◌<◌};
-ghost use Rattle.theory.specs.Best.{Accepted};
-ghost use Rattle.relations.specs.Related.{HoldsRelations};
-ghost use Rattle.marks.specs.Held.{HoldsPlaces};
-ghost use Rattle.paths.specs.Held.{HoldsSides, HoldsTrips, HoldsCounts, HoldsFirsts};
-ghost use Rattle.starts.specs.Outlook.{Outlook};
+ghost use Rattle.std.specs.Prelude.{◌≡◌, ◌≢◌, ◌≤◌, ℕ, [], length, IfSome};
+ghost use Rattle.model.specs.Paths.{same_end};
 ghost use Rattle.savings.specs.Breakers.{end_at};
-ghost use Rattle.sets.specs.Sets.{weight_at, in_series_at};
+ghost use Rattle.theory.specs.Best.{Accepted};
 ghost use Rattle.network.specs.There.{LineThere, PlaceThere};
-ghost use Rattle.starts.specs.Own.{stop_of, far_place, HoldsOwn, HoldsOwnInSeries, HoldsUpstreams, behind_in, under_in};
+ghost use Rattle.tree.specs.Linked.{LineHeld};
+ghost use Rattle.marks.specs.Held.{optional};
+ghost use Rattle.paths.specs.Held.{trip_in, HoldsPaths};
+ghost use Rattle.relations.specs.Related.{HoldsRoutes, HoldsRelations};
+ghost use Rattle.sets.specs.Sets.{upstream_at, weight_at, in_series_at};
+ghost use Rattle.starts.specs.Own.{stop_of, far_place, raised, HoldsOwn, HoldsOwnInSeries, is_behind, behind_in, counts_for};
 
-use network::Network;
+use network::{End, Network, Side};
+use paths::Paths;
+use relations::{Relation, Relations, Routes};
 
-// The place where a line's path first meets a breaker or a place, 0 if that is a breaker: the first place on the path, if the breaker
-// upstream of it is the one that trips for the line.
-fn stop_of(net: &Network, trips: &[u64; 768], firsts: &[u64; 768], line: usize) -> usize
-    requires { Accepted net.now × HoldsTrips net.now trips.now
-        × HoldsFirsts net.now firsts.now × LineThere net.now line }
-    ensures stop { result ≡ stop_of net.now line }
-    ensures few { result ≤ 64 }
-{
-    let place = firsts[line - 1] as usize;
-    if place == 0 {
-        return 0;
-    }
-    if trips[line - 1] != trips[net.place_line(place) - 1] {
-        return 0;
-    }
-    place
+// What a breaker on a place would do: the breaker upstream of it, the weight of the lines that would trip it, and the most breakers
+// in series with it.
+#[derive(Clone, Copy, Debug, Default, PartialEq, Eq)]
+pub struct Prospect {
+    pub upstream: End,
+    pub weight: u64,
+    pub in_series: u64,
 }
 
-// The weight of the lines whose path meets each place first, of the breakers and places. Entry 0 is for the lines that meet a
-// breaker first.
-fn own_weights(net: &Network, trips: &[u64; 768], firsts: &[u64; 768]) -> [u64; 65]
-    requires { Accepted net.now × HoldsTrips net.now trips.now
-        × HoldsFirsts net.now firsts.now }
-    ensures { HoldsOwn net.now result }
+impl Prospect {
+    // What there is of no place.
+    pub const NONE: Prospect = Prospect {
+        upstream: End {
+            line: 0,
+            side: Side::One,
+        },
+        weight: 0,
+        in_series: 0,
+    };
+}
+
+// The prospect of each place. Places have the file's numbers, from 1.
+#[derive(Drop)]
+pub struct Outlook {
+    prospects: [Prospect; 65],
+    ghost long: { length prospects ≡ 65 },
+}
+
+impl Outlook {
+    ghost use Rattle.starts.specs.Outlook.{no_prospect, prospect_of};
+
+    // Room for the prospects of 64 places.
+    pub fn new() -> Outlook
+        ensures { (p : ℕ) → prospect_of result p ≡ no_prospect }
+    {
+        Outlook {
+            prospects: [Prospect::NONE; 65],
+        }
+    }
+
+    // The prospect of a place.
+    pub fn of(&self, place: usize) -> Prospect
+        requires { place ≤ 64 }
+        ensures { result ≡ prospect_of self.now place }
+    {
+        self.prospects[place]
+    }
+
+    // Sets the prospect of a place, and no other's.
+    pub fn set(&mut self, place: usize, prospect: Prospect)
+        requires { place ≤ 64 }
+        ensures place { prospect_of self.new place ≡ prospect }
+        ensures others { (p : ℕ) → p ≤ 64 → p ≢ place → prospect_of self.new p ≡ prospect_of self.old p }
+    {
+        self.prospects[place] = prospect;
+    }
+}
+
+// Whether the same breaker trips for two lines.
+fn trip_together(paths: &Paths, a: usize, b: usize) -> bool
+    requires { LineHeld a × LineHeld b }
+    ensures { result ≡ same_end (trip_in paths.now a) (trip_in paths.now b) }
+{
+    paths.trip(a) == paths.trip(b)
+}
+
+// The place where a line's path first meets a breaker or a place, if that is no breaker: the first place on the path, if the breaker
+// upstream of it is the one that trips for the line.
+fn stop_of(routes: &Routes, paths: &Paths, line: usize) -> Option<usize>
+    requires { HoldsRoutes routes.now × HoldsPaths routes.now.net.now paths.now
+        × LineThere routes.now.net.now line }
+    ensures { result ≡ optional (stop_of routes.now.net.now line) }
+{
+    let place = routes.firsts.first(line)?;
+    if trip_together(paths, line, routes.net.place_line(place)) {
+        Some(place)
+    } else {
+        None
+    }
+}
+
+// The weight of the lines whose path meets each place first, of the breakers and places.
+fn own_weights(routes: &Routes, paths: &Paths) -> [u64; 65]
+    requires { HoldsRoutes routes.now × HoldsPaths routes.now.net.now paths.now }
+    ensures { HoldsOwn routes.now.net.now result }
 {
     let mut own = [0u64; 65];
-    for line in 1..net.line_count() + 1 {
-        let stop = stop_of(net, trips, firsts, line);
-        own[stop] = own[stop] + net.weight(line);
+    for line in 1..routes.net.line_count() + 1 {
+        if let Some(place) = stop_of(routes, paths, line) {
+            own[place] += routes.net.weight(line);
+        }
     }
     own
 }
 
-// Whether place s is place p or lies behind it.
-fn behind(relations: &[u64; 4225], p: usize, s: usize) -> bool
+// Raises the number of a place, if there is one, to at least so many.
+fn raise(numbers: &mut [u64; 65], place: Option<usize>, least: u64)
+    requires { IfSome place (λ p. p ≤ 64) }
+    ensures raised { numbers.new ≡ raised numbers.old place least }
+    ensures long { length numbers.new ≡ 65 }
+{
+    if let Some(place) = place {
+        numbers[place] = numbers[place].max(least);
+    }
+}
+
+// The most breakers on a path of a line or a station that meets each place first, of the places.
+fn own_in_series(routes: &Routes, paths: &Paths) -> [u64; 65]
+    requires { HoldsRoutes routes.now × HoldsPaths routes.now.net.now paths.now }
+    ensures { HoldsOwnInSeries routes.now.net.now result }
+{
+    let mut in_series = [0u64; 65];
+    for line in 1..routes.net.line_count() + 1 {
+        raise(&mut in_series, routes.firsts.first(line), paths.count(line));
+        let beyond = far_place(routes, line);
+        let count = series::count_beyond(routes.net, routes.tree, paths, line);
+        raise(&mut in_series, beyond, count);
+    }
+    in_series
+}
+
+// The first place on the path of the station that a line feeds: that on its far end, or else the first on the line's. There is none
+// if the far end is open.
+fn far_place(routes: &Routes, line: usize) -> Option<usize>
+    requires { HoldsRoutes routes.now × LineThere routes.now.net.now line }
+    ensures { result ≡ optional (far_place routes.now.net.now line) }
+{
+    if routes.net.is_open(routes.tree.far(line)) {
+        return None;
+    }
+    routes.firsts.first_beyond(routes.tree, routes.places, line)
+}
+
+// Whether a place lies behind the one that it stands to.
+fn is_behind(relation: Relation) -> bool
+    ensures { result ≡ is_behind relation }
+{
+    relation == Relation::Behind
+}
+
+// Whether place `s` is place `p` or lies behind it.
+fn behind(relations: &Relations, p: usize, s: usize) -> bool
     requires { (p ≤ 64) × (s ≤ 64) }
     ensures { result ≡ behind_in relations.now p s }
 {
-    s == p || relations[p * 65 + s] == 1
+    s == p || is_behind(relations.between(p, s))
 }
 
-// Whether place s is place p or lies behind it, with the same breaker upstream of both.
-fn under(relations: &[u64; 4225], upstreams: &[u64], p: usize, s: usize) -> bool
-    requires { (p ≤ 64) × (s ≤ 64) × (64 < length upstreams.now) }
-    ensures { result ≡ under_in relations.now upstreams.now p s }
+// Whether place `s` is place `p` or lies behind it, with the same breaker upstream of both.
+#[tactic(auto, using(crate::proofs::UnderPlaces::line_held))]
+fn under(net: &Network, paths: &Paths, relations: &Relations, p: usize, s: usize) -> bool
+    requires places { Accepted net.now × PlaceThere net.now p × PlaceThere net.now s }
+    requires held { HoldsPaths net.now paths.now × HoldsRelations net.now relations.now }
+    ensures { result ≡ counts_for net.now p s }
 {
-    behind(relations, p, s) && upstreams[s] == upstreams[p]
+    behind(relations, p, s) && trip_together(paths, net.place_line(s), net.place_line(p))
+}
+
+// The breaker upstream of a place before any is chosen: the one that trips for its line.
+fn start_upstream(net: &Network, paths: &Paths, place: usize) -> End
+    requires { Accepted net.now × HoldsPaths net.now paths.now × PlaceThere net.now place }
+    ensures { result ≡ upstream_at net.now [] (end_at net.now place) }
+{
+    paths.trip(net.place_line(place))
 }
 
 // The weight of a place before any is chosen: what is its own, and what is that of the places under it.
 fn start_weight(
     net: &Network,
-    relations: &[u64; 4225],
+    paths: &Paths,
+    relations: &Relations,
     own: &[u64; 65],
-    upstreams: &[u64],
-    p: usize,
+    place: usize,
 ) -> u64
-    requires { Accepted net.now × HoldsRelations net.now relations.now
-        × HoldsOwn net.now own.now × HoldsUpstreams net.now upstreams.now
-        × (64 < length upstreams.now) × PlaceThere net.now p }
-    ensures { result ≡ weight_at net.now [] (end_at net.now p) }
+    requires places { Accepted net.now × HoldsPaths net.now paths.now × PlaceThere net.now place }
+    requires own { HoldsRelations net.now relations.now × HoldsOwn net.now own.now }
+    ensures { result ≡ weight_at net.now [] (end_at net.now place) }
 {
     let mut weight: u64 = 0;
     for s in 1..net.place_count() + 1 {
-        if under(relations, upstreams, p, s) {
-            weight = weight + own[s];
+        if under(net, paths, relations, place, s) {
+            weight += own[s];
         }
     }
     weight
 }
 
-// The first place on the path of the station that a line feeds: that on its far end, or else the first on the line's. It is 0 if
-// there is none, or the far end is open.
-fn far_place(
-    net: &Network,
-    sides: &[u64; 768],
-    marks: &[u64; 1537],
-    firsts: &[u64; 768],
-    line: usize,
-) -> usize
-    requires { Accepted net.now × HoldsSides net.now sides.now
-        × HoldsPlaces net.now marks.now × HoldsFirsts net.now firsts.now
-        × LineThere net.now line }
-    ensures { (result ≡ far_place net.now line) × (result ≤ 64) }
-{
-    if net.is_open(line, 3 - sides[line - 1] as usize) {
-        return 0;
-    }
-    paths::first_beyond(net, sides, marks, firsts, line) as usize
-}
-
-// The most breakers on a path of a line or a station that meets each place first, of the places. Entry 0 is for the paths without
-// a place.
-fn own_in_series(
-    net: &Network,
-    sides: &[u64; 768],
-    marks: &[u64; 1537],
-    firsts: &[u64; 768],
-    counts: &[u64; 768],
-) -> [u64; 65]
-    requires { Accepted net.now × HoldsSides net.now sides.now
-        × HoldsPlaces net.now marks.now × HoldsFirsts net.now firsts.now
-        × HoldsCounts net.now counts.now }
-    ensures { HoldsOwnInSeries net.now result }
-{
-    let mut in_series = [0u64; 65];
-    for line in 1..net.line_count() + 1 {
-        let first = firsts[line - 1] as usize;
-        in_series[first] = series::larger(in_series[first], counts[line - 1]);
-        let beyond = far_place(net, sides, marks, firsts, line);
-        let count = series::count_beyond(net, sides, counts, line);
-        in_series[beyond] = series::larger(in_series[beyond], count);
-    }
-    in_series
-}
-
 // The most breakers in series with a place before any is chosen: the most of what is its own, or of a place behind it.
-fn start_in_series(net: &Network, relations: &[u64; 4225], own: &[u64; 65], p: usize) -> u64
+fn start_in_series(net: &Network, relations: &Relations, own: &[u64; 65], place: usize) -> u64
     requires { Accepted net.now × HoldsRelations net.now relations.now
-        × HoldsOwnInSeries net.now own.now × PlaceThere net.now p }
-    ensures { result ≡ in_series_at net.now [] (end_at net.now p) }
+        × HoldsOwnInSeries net.now own.now × PlaceThere net.now place }
+    ensures { result ≡ in_series_at net.now [] (end_at net.now place) }
 {
     let mut in_series: u64 = 0;
     for s in 1..net.place_count() + 1 {
-        if behind(relations, p, s) {
-            in_series = series::larger(in_series, own[s]);
+        if behind(relations, place, s) {
+            in_series = in_series.max(own[s]);
         }
     }
     in_series
 }
 
-// The codes of the breakers upstream of the places.
-fn fill_upstreams(net: &Network, trips: &[u64; 768], outlook: &mut [u64])
-    requires { Accepted net.now × HoldsTrips net.now trips.now × (length outlook.old ≡ 195) }
-    ensures { HoldsUpstreams net.now outlook.new }
-{
-    for p in 1..net.place_count() + 1 {
-        outlook[p] = trips[net.place_line(p) - 1];
+impl Outlook {
+    ghost use Rattle.starts.specs.Outlook.{HoldsOutlook};
+
+    // Sets the prospects of the empty set: of each place the breaker upstream of it, its weight and the most breakers in series with
+    // it.
+    pub fn start(&mut self, routes: &Routes, paths: &Paths, relations: &Relations)
+        requires { HoldsRoutes routes.now × HoldsPaths routes.now.net.now paths.now
+            × HoldsRelations routes.now.net.now relations.now }
+        ensures { HoldsOutlook routes.now.net.now [] 1 self.new }
+    {
+        let net = routes.net;
+        let own = own_weights(routes, paths);
+        let in_series = own_in_series(routes, paths);
+        for place in 1..net.place_count() + 1 {
+            let prospect = Prospect {
+                upstream: start_upstream(net, paths, place),
+                weight: start_weight(net, paths, relations, &own, place),
+                in_series: start_in_series(net, relations, &in_series, place),
+            };
+            self.set(place, prospect);
+        }
     }
-}
-
-// The weights of the places and the most breakers in series with them, in an outlook that has the codes of the breakers upstream of
-// them.
-fn fill_values(
-    net: &Network,
-    relations: &[u64; 4225],
-    own: &[u64; 65],
-    in_series: &[u64; 65],
-    outlook: &mut [u64],
-)
-    requires { Accepted net.now × HoldsRelations net.now relations.now
-        × HoldsOwn net.now own.now × HoldsOwnInSeries net.now in_series.now
-        × HoldsUpstreams net.now outlook.old × (length outlook.old ≡ 195) }
-    ensures { Outlook net.now [] 1 outlook.new }
-{
-    for p in 1..net.place_count() + 1 {
-        outlook[65 + p] = start_weight(net, relations, own, outlook, p);
-        outlook[130 + p] = start_in_series(net, relations, in_series, p);
-    }
-}
-
-// The outlook of the empty set: of each place the breaker upstream of it, its weight and the most breakers in series with it.
-fn fill_start(
-    net: &Network,
-    trips: &[u64; 768],
-    relations: &[u64; 4225],
-    own: &[u64; 65],
-    in_series: &[u64; 65],
-    outlook: &mut [u64; 195],
-)
-    requires { Accepted net.now × HoldsTrips net.now trips.now
-        × HoldsRelations net.now relations.now × HoldsOwn net.now own.now
-        × HoldsOwnInSeries net.now in_series.now }
-    ensures { Outlook net.now [] 1 outlook.new × (length outlook.new ≡ 195) }
-{
-    fill_upstreams(net, trips, outlook);
-    fill_values(net, relations, own, in_series, outlook);
-}
-
-// The outlook of the empty set, from what the path of each line meets first and how the places stand to each other.
-pub fn start_outlook(
-    net: &Network,
-    sides: &[u64; 768],
-    marks: &[u64; 1537],
-    trips: &[u64; 768],
-    counts: &[u64; 768],
-    firsts: &[u64; 768],
-    relations: &[u64; 4225],
-    outlook: &mut [u64; 195],
-)
-    requires accepted { Accepted net.now × HoldsSides net.now sides.now
-        × HoldsTrips net.now trips.now × HoldsCounts net.now counts.now }
-    requires holds_places { HoldsPlaces net.now marks.now × HoldsFirsts net.now firsts.now
-        × HoldsRelations net.now relations.now }
-    ensures { Outlook net.now [] 1 outlook.new × (length outlook.new ≡ 195) }
-{
-    let own = own_weights(net, trips, firsts);
-    let in_series = own_in_series(net, sides, marks, firsts, counts);
-    fill_start(net, trips, relations, &own, &in_series, outlook);
 }

@@ -37,10 +37,10 @@ pub fn put_line(buf: &mut [u8], letter: u8, numbers: &[u64]) -> usize
 {
     put_byte(buf, 0, letter);
     let mut at: usize = 1;
-    for i in 0..numbers.len() {
+    for &number in numbers {
         put_byte(buf, at, b',');
-        at = at + 1;
-        at = at + put_number(&mut buf[at..], numbers[i]);
+        at += 1;
+        at += put_number(&mut buf[at..], number);
     }
     put_byte(buf, at, b'\n');
     at + 1

@@ -2,13 +2,14 @@
 use Prim.Native.Nat.{ℕ, zero, suc, ◌+◌, ◌*◌, ◌-◌, ◌/◌, ◌%◌, ◌≤◌}
 use mathlib.Core.Path.{◌≡◌, refl, sym, ap, ◌∙◌}
 use mathlib.Core.Bool.{true, false, not}
-use mathlib.Core.List.{List, [], ◌∷◌, map, flat_map}
+use mathlib.Core.List.{[], ◌∷◌, map, flat_map}
 use native.Mathlib.Omega.{arith}
 use lib.ListN.{length}
 use Rattle.model.specs.Lists.{keep, numbers}
 use Rattle.model.specs.Network.{Network}
-use Rattle.model.specs.Paths.{End, end1, end2, line_numbers, is_open, closed_ends}
+use Rattle.model.specs.Paths.{end1, end2, line_numbers, is_open, closed_ends}
 use Rattle.tree.specs.Linked.{code_end}
+use Rattle.tree.specs.Queue.{closed_above}
 
 -- both ends of each line, by their codes
 ends-coded : (from count : ℕ) → 1 ≤ from → flat_map (λ l. end1 l ∷ end2 l ∷ []) (numbers from count) ≡ map code_end (numbers (2 * from - 1) (2 * count))
@@ -24,10 +25,6 @@ ends-coded from (suc count) h =
 
     second : end2 from ≡ code_end (2 * from - 1 + 1)
     second i = record { line = (let e : from ≡ (2 * from - 1 + 1 + 1) / 2 = omega arith in e) i; side = (let e : 2 ≡ 2 - (2 * from - 1 + 1) % 2 = omega arith in e) i }
-
--- the closed ends whose codes are above c
-abbrev pub closed_above : Network → ℕ → List End
-closed_above N c = keep (λ e. not (is_open N e)) (map code_end (numbers (c + 1) (2 * length N.lines - c)))
 
 module _ (N : Network) where
   pub above-none : closed_above N (2 * length N.lines) ≡ []

@@ -1,10 +1,11 @@
-pub mod Codes
-pub mod Linking
 pub mod Fitting
 pub mod Near
 pub mod Lengths
-pub mod Adding
-pub mod Following
-pub mod Leaving
-pub mod Laying
-pub mod Queueing
+mod Chains
+mod Codes
+mod Linking
+mod Following
+mod Leaving
+mod Laying
+mod Adding
+mod Queueing

@@ -1,286 +1,280 @@
--- The queue of lines in its buffers, from the HV stations outwards.
-use Prim.Native.Nat.{ℕ, zero, suc, ◌+◌, ◌*◌, ◌-◌, ◌/◌, ◌%◌, ◌≤◌, ◌<◌}
+-- The queue of lines as it is noted, from the HV stations outwards.
+use Prim.Native.Nat.{ℕ, zero, suc, ◌+◌, ◌≤◌, ◌<◌}
 use mathlib.Core.Path.{◌≡◌, refl, sym, ap, ◌∙◌, subst}
 use mathlib.Core.Bool.{true, false, true≢false}
 use mathlib.Core.Logic.{◌⊎◌, inl, inr, ⊎_elim}
+use mathlib.Core.List.Memᴰ
 use mathlib.Core.List.{List, [], ◌∷◌, ◌++◌, map, Memᴰ}
 use native.Mathlib.Decide.{ℕ_discrete}
 use native.Mathlib.Numerals.{add-one}
 use native.Mathlib.Omega.{arith}
+use lib.Dec.{eqb}
 use lib.ListN.{length, get_or, take, length-append, length-map}
-use lib.Seq.{length-take-le, take-suc, take-append-le, take-take, get_or-take}
+use lib.Seq.{take-suc, take-append-le}
+use Rattle.std.specs.Prelude.{Option, None, Some}
 use Rattle.model.specs.Network.{Network}
-use Rattle.model.specs.Paths.{station, line, End, is_open, station_at, is_hv, at_hv}
+use Rattle.model.specs.Paths.{station, line, End, is_open, station_at, closed_ends, is_hv, at_hv}
 use Rattle.model.specs.Outage.{path_to_hv}
 use Rattle.graphs.specs.Graph.{NoRepeat}
 use Rattle.graphs.specs.Sum.{Fresh-not}
 use Rattle.theory.specs.Reading.{Read}
-use Rattle.theory.specs.Ends.{closed-end}
+use Rattle.theory.specs.Ends.{keep-in, closed_in, closed-end}
 use Rattle.theory.specs.Radial.{Rules, In, root_in, station-in}
-use Rattle.theory.specs.Behind.{far, side-of}
-use Rattle.tree.specs.Linked.{end_code, code_end, Chain, ends_at, Linked}
-use Rattle.tree.specs.Outwards.{near_end, feeder, Outwards}
-use Rattle.tree.specs.Codes.{CodeThere}
-use Rattle.tree.specs.Queue.{leaving, Room, Added, Laid, Told, Queue, HVUpTo, Reached}
+use Rattle.theory.specs.Behind.{far}
+use Rattle.network.specs.There.{LineThere}
+use Rattle.tree.specs.Linked.{LineHeld, ends_at}
+use Rattle.tree.specs.Outwards.{near_end, some_line}
+use Rattle.tree.specs.Held.{HasList, listed_ends, noted_near, HoldsTree}
+use Rattle.tree.specs.Queue.{Linked, leaving, Room, Added, Laid, Told, Queue, HVBelow, Reached, Whole}
 use Rattle.tree.specs.Feeding.{FarEnd}
+use Rattle.tree.specs.declared.Lists.{Lists}
+use Rattle.tree.specs.declared.Supply.{Supply}
+use Rattle.tree.specs.declared.Tree.{Tree}
+use Rattle.tree.proofs.Fitting.{read_fits, line_held}
+use Rattle.tree.proofs.Chains.{whole-chain}
 use Rattle.tree.proofs.Near.{near-end, hv-path, far-first}
 use Rattle.tree.proofs.Leaving.{Leaves, leaves-hv, leaves-far}
-use Rattle.tree.proofs.Adding.{sides-length, feed-length, order-length, order-after, told-after}
+use Rattle.tree.proofs.Adding.{sides-length, feed-length, Placed, told-after}
 use Rattle.tree.proofs.Laying.{place_of, at_place, laid-count, laid_same, laid_more, laid-all, laid-full}
 
 -- an element of a list without repeats is none of those before it
 once-place : (xs : List ℕ) (i : ℕ) → i < length xs → NoRepeat xs → Memᴰ (get_or xs i 0) (take i xs) → ⊥
 once-place [] i h n m = absurd (omega arith)
-once-place (x ∷ xs) zero h n m = mathlib.Core.List.Memᴰ.not-nil m
+once-place (x ∷ xs) zero h n m = Memᴰ.not-nil m
 once-place (x ∷ xs) (suc i) h n m =
-    ⊎_elim (λ e. Fresh-not x (get_or xs i 0) xs n.0 (at_place xs i (omega arith)) e) (λ k. once-place xs i (omega arith) n.1 k) (mathlib.Core.List.Memᴰ.cases_cons m)
+    ⊎_elim (λ e. Fresh-not x (get_or xs i 0) xs n.0 (at_place xs i (omega arith)) e) (λ k. once-place xs i (omega arith) n.1 k) (Memᴰ.cases_cons m)
+
+-- the elements before one are elements
+in-take : {l : ℕ} (xs : List ℕ) (i : ℕ) → Memᴰ l (take i xs) → Memᴰ l xs
+in-take [] zero m = m
+in-take [] (suc i) m = m
+in-take (x ∷ xs) zero m = absurd (Memᴰ.not-nil m)
+in-take (x ∷ xs) (suc i) m = ⊎_elim (λ e. Memᴰ.head e) (λ k. Memᴰ.tail (in-take xs i k)) (Memᴰ.cases_cons m)
+
+take-whole : (xs : List ℕ) (i : ℕ) → length xs ≤ i → take i xs ≡ xs
+take-whole [] zero h = refl
+take-whole [] (suc i) h = refl
+take-whole (x ∷ xs) zero h = absurd (omega arith)
+take-whole (x ∷ xs) (suc i) h = ap (λ ys. x ∷ ys) (take-whole xs i (omega arith))
+
+pub line-some : (l : ℕ) → 1 ≤ l → Some l ≡ some_line l
+line-some zero h = absurd (omega arith)
+line-some (suc l) h = refl
+
+-- the list of a station
+module _ (N : Network) (d : Read N) (x : Lists) (k : Linked N x) (s : ℕ) (i : In N (station s)) where
+  pub linked-has : HasList x s
+  linked-has = record { low = i.0; high = omega (arith, i.1, (read_fits N d).stations); listed = (ends_at N s, k s i.0 i.1) }
+
+  pub linked-ends : listed_ends x s ≡ ends_at N s
+  linked-ends = whole-chain (k s i.0 i.1)
 
 module _ (N : Network) (d : Read N) (r : Rules N) where
-  pub queue-start : (sides feeders order : List ℕ) → length sides ≡ 768 → length feeders ≡ 768 → length order ≡ 768 → Queue N (HVUpTo N 0) sides feeders order 0
+  pub queue-start : (y : Supply) → y.order.items ≡ [] → length y.sides ≡ 768 → length y.feeders ≡ 768 → Queue N (HVBelow N 1) y
   unfolding at_hv
-  queue-start sides feeders order a b c = record {
-    most = omega arith;
-    laid = record {
-      inside = λ l m. absurd (mathlib.Core.List.Memᴰ.not-nil m);
-      near = λ l m. absurd (mathlib.Core.List.Memᴰ.not-nil m);
+  queue-start y e a b = record {
+    laid = subst (Laid N (HVBelow N 1)) (sym e) (record {
+      inside = λ l m. absurd (Memᴰ.not-nil m);
+      near = λ l m. absurd (Memᴰ.not-nil m);
       all = λ l i k. absurd (omega (arith, k.1, (root_in N d (station (station_at N (near_end N l))) k.0).0));
       once = tt;
       after = λ i h. absurd (omega arith);
-    };
-    told = λ l m. absurd (mathlib.Core.List.Memᴰ.not-nil m);
+    });
+    told = subst (Told N y.sides y.feeders) (sym e) (λ l m. absurd (Memᴰ.not-nil m));
     nears = a;
     feeds = b;
-    orders = c;
   }
 
-  module _ {Done : ℕ → Type 0} (sides feeders order : List ℕ) (n : ℕ) (q : Queue N Done sides feeders order n) where
+  module _ {Done : ℕ → Type 0} (y : Supply) (q : Queue N Done y) where
     -- the same stations
-    queue-same : {Done' : ℕ → Type 0} → ((t : ℕ) → Done t → Done' t) → ((t : ℕ) → Done' t → Done t) → Queue N Done' sides feeders order n
-    queue-same f g = record { most = q.most; laid = laid_same N f g q.laid; told = q.told; nears = q.nears; feeds = q.feeds; orders = q.orders }
-
-    -- the line at a place
-    queue-line : (i : ℕ) → i < n → Memᴰ (get_or order i 0) (take n order)
-    queue-line i h = mathlib.Core.List.Memᴰ.cast (sym (get_or-take n order i 0 h)) (at_place (take n order) i (omega (arith, length-take-le n order (omega (arith, q.most, q.orders)))))
+    queue-same : {Done' : ℕ → Type 0} → ((t : ℕ) → Done t → Done' t) → ((t : ℕ) → Done' t → Done t) → Queue N Done' y
+    queue-same f g = record { laid = laid_same N f g q.laid; told = q.told; nears = q.nears; feeds = q.feeds }
 
     -- one station more
-    module _ (s came fed : ℕ) (v : Leaves N s (leaving came (ends_at N s)) fed) (new : Done s → ⊥) (known : 1 ≤ fed → Memᴰ fed (take n order)) where
+    module _ (s fed : ℕ) (o : Option ℕ) (p : o ≡ some_line fed) (v : Leaves N s (leaving o (ends_at N s)) fed) (new : Done s → ⊥) (known : 1 ≤ fed → Memᴰ fed y.order.items) where
       -- there is room for its lines
-      room : n + length (leaving came (ends_at N s)) ≤ 768
+      room : length y.order.items + length (leaving o (ends_at N s)) ≤ 768
       room =
-          let t = laid-count N (laid_more N d r {Done' = λ t. Done t ⊎ (t ≡ s)} s (leaving came (ends_at N s)) fed q.laid v new known (λ t x. inl x) (inr refl) (λ t x. x)) in
-          omega (
-            arith,
-            t,
-            length-append (take n order) (map (λ e. e.line) (leaving came (ends_at N s))),
-            length-map (leaving came (ends_at N s)) (λ e. e.line),
-            length-take-le n order (omega (arith, q.most, q.orders)),
-            d.line_count,
-            d.head.lines.high,
-          )
+          let t = laid-count N (laid_more N d r {Done' = λ t. Done t ⊎ (t ≡ s)} s (leaving o (ends_at N s)) fed q.laid v new known (λ t x. inl x) (inr refl) (λ t x. x)) in
+          omega (arith, t, length-append y.order.items (map (λ e. e.line) (leaving o (ends_at N s))), length-map (leaving o (ends_at N s)) (λ e. e.line), (read_fits N d).lines)
 
-      queue-room : (chains nexts : List ℕ) → Linked N chains nexts → In N (station s) → Room nexts (get_or chains (s - 1) 0) came n
-      queue-room chains nexts k i = record { most = 2 * length N.lines; small = omega (arith, d.line_count, d.head.lines.high); ends = ends_at N s; chain = k.lists s i.0 i.1; fits = room }
+      held : (e : End) → Memᴰ e (ends_at N s) → LineHeld e.line
+      held e m = let c = closed-end N e (closed_in N e (keep-in (λ e. eqb (station_at N e) s) e (closed_ends N) m).0) in line_held N d (record { low = c.0; high = c.1 })
 
-      module _ (sides' feed' order' : List ℕ) (n' : ℕ) (a : Added (leaving came (ends_at N s)) fed n sides feeders order sides' feed' order' n') where
-        -- its lines stand behind those before
-        added : take n' order' ≡ take n order ++ map (λ e. e.line) (leaving came (ends_at N s))
-        added = ap (λ k. take k order') a.counted ∙ ap (take (n + length (leaving came (ends_at N s)))) a.orders ∙ order-after order n (leaving came (ends_at N s)) (omega (arith, room, q.orders))
+      placed : (e : End) → Memᴰ e (leaving o (ends_at N s)) → Placed N fed e (length y.sides)
+      placed e m =
+          let i = v.inside e m in
+          let z = v.sides e m in
+          record { low = i.0; high = omega (arith, i.1, q.nears, (read_fits N d).lines); first = z.0; second = z.1; near = v.near e m; feeds = v.feeds e m }
 
-        queue-kept : (k : ℕ) → k ≤ n → take k order' ≡ take k order
-        queue-kept k h =
-            sym (take-take k n' order' (omega (arith, a.counted)))
-            ∙ ap (take k) added
-            ∙ take-append-le k (take n order) (map (λ e. e.line) (leaving came (ends_at N s))) (omega (arith, length-take-le n order (omega (arith, q.most, q.orders))))
-            ∙ take-take k n order h
+      queue-room : (ends : List End) → ends ≡ ends_at N s → Room y ends o
+      queue-room ends e = subst (λ es. Room y es o) (sym e) (record { lines = held; fits = room })
 
-        queue-add : {Done' : ℕ → Type 0} → ((t : ℕ) → Done t → Done' t) → Done' s → ((t : ℕ) → Done' t → Done t ⊎ (t ≡ s)) → Queue N Done' sides' feed' order' n'
+      module _ (y' : Supply) (a : Added (leaving o (ends_at N s)) o y y') where
+        -- the lines before stay where they are
+        queue-kept : (k : ℕ) → k ≤ length y.order.items → take k y'.order.items ≡ take k y.order.items
+        queue-kept k h = ap (take k) a.orders ∙ take-append-le k y.order.items (map (λ e. e.line) (leaving o (ends_at N s))) h
+
+        queue-longer : length y.order.items ≤ length y'.order.items
+        queue-longer = omega (arith, ap length a.orders, length-append y.order.items (map (λ e. e.line) (leaving o (ends_at N s))))
+
+        queue-add : {Done' : ℕ → Type 0} → ((t : ℕ) → Done t → Done' t) → Done' s → ((t : ℕ) → Done' t → Done t ⊎ (t ≡ s)) → Queue N Done' y'
         queue-add {Done'} f here g = record {
-          most = omega (arith, a.counted, room);
-          laid = subst (Laid N Done') (sym added) (laid_more N d r s (leaving came (ends_at N s)) fed q.laid v new known f here g);
-          told = subst (Told N sides' feed') (sym added)
-              (rw (a.nears, a.feeds)
-              (told-after N fed sides feeders (take n order) (leaving came (ends_at N s)) (λ l m. (q.laid.inside l m).0)
-              (λ e m. let i = v.inside e m in (i.0, omega (arith, i.1, q.nears, d.line_count, d.head.lines.high), omega (arith, i.1, q.feeds, d.line_count, d.head.lines.high), v.near e m, v.feeds e m))
-              q.told));
-          nears = ap length a.nears ∙ sides-length sides (leaving came (ends_at N s)) ∙ q.nears;
-          feeds = ap length a.feeds ∙ feed-length fed feeders (leaving came (ends_at N s)) ∙ q.feeds;
-          orders = ap length a.orders ∙ order-length order n (leaving came (ends_at N s)) ∙ q.orders;
+          laid = subst (Laid N Done') (sym a.orders) (laid_more N d r s (leaving o (ends_at N s)) fed q.laid v new known f here g);
+          told = subst (Told N y'.sides y'.feeders) (sym a.orders)
+              (rw (a.nears, a.feeds, p)
+              (told-after N fed y.sides y.feeders y.order.items (leaving (some_line fed) (ends_at N s)) (λ l m. (q.laid.inside l m).0)
+              (subst (λ o. (e : End) → Memᴰ e (leaving o (ends_at N s)) → Placed N fed e (length y.sides)) p placed)
+              (q.feeds ∙ sym q.nears) q.told));
+          nears = ap length a.nears ∙ sides-length y.sides (leaving o (ends_at N s)) ∙ q.nears;
+          feeds = ap length a.feeds ∙ feed-length o y.feeders (leaving o (ends_at N s)) ∙ q.feeds;
         }
 
   -- ── the HV stations ──
-  module _ (s : ℕ) (sides feeders order : List ℕ) (n : ℕ) (q : Queue N (HVUpTo N s) sides feeders order n) where
-    pub hv-skip : is_hv N (s + 1) ≡ false → Queue N (HVUpTo N (s + 1)) sides feeders order n
-    hv-skip h = queue-same sides feeders order n q (λ t x. (x.0, omega (arith, x.1))) (λ t x. (x.0, go t x (ℕ_discrete t (s + 1))))
+  module _ (s : ℕ) (y : Supply) (q : Queue N (HVBelow N s) y) where
+    pub hv-skip : is_hv N s ≡ false → Queue N (HVBelow N (s + 1)) y
+    hv-skip h = queue-same y q (λ t x. (x.0, omega (arith, x.1))) (λ t x. (x.0, go t x (ℕ_discrete t s)))
       where
-        go : (t : ℕ) → HVUpTo N (s + 1) t → Dec (t ≡ s + 1) → t ≤ s
+        go : (t : ℕ) → HVBelow N (s + 1) t → Dec (t ≡ s) → t < s
         go t x (yes e) = absurd (true≢false (sym x.0 ∙ ap (is_hv N) e ∙ h))
         go t x (no e) = omega (arith, x.1)
 
-    module _ (h : is_hv N (s + 1) ≡ true) where
-      new : HVUpTo N s (s + 1) → ⊥
+    module _ (h : is_hv N s ≡ true) (ends : List End) (e : ends ≡ ends_at N s) where
+      new : HVBelow N s s → ⊥
       new x = omega (arith, x.1)
 
-      pub hv-room : (chains nexts : List ℕ) → Linked N chains nexts → Room nexts (get_or chains s 0) 0 n
-      unfolding at_hv
-      hv-room chains nexts k =
-          let e : s + 1 - 1 ≡ s = omega arith in
-          subst (λ c. Room nexts (get_or chains c 0) 0 n) e
-          (queue-room sides feeders order n q (s + 1) 0 0 (leaves-hv N d r (s + 1) h) new (λ x. absurd (omega arith)) chains nexts k (root_in N d (station (s + 1)) h))
+      pub hv-room : Room y ends None
+      hv-room = queue-room y q s 0 None refl (leaves-hv N d r s h) new (λ x. absurd (omega arith)) ends e
 
-      pub hv-add : (chains nexts sides' feed' order' : List ℕ) (n' : ℕ) → Linked N chains nexts
-          → ((most : ℕ) (es : List End) → Chain most nexts (get_or chains s 0) es → Added (leaving 0 es) 0 n sides feeders order sides' feed' order' n') → Queue N (HVUpTo N (s + 1)) sides' feed' order' n'
-      unfolding at_hv
-      hv-add chains nexts sides' feed' order' n' k a =
-          queue-add sides feeders order n q (s + 1) 0 0 (leaves-hv N d r (s + 1) h) new (λ x. absurd (omega arith)) sides' feed' order' n'
-          (a (2 * length N.lines) (ends_at N (s + 1)) chain) (λ t x. (x.0, omega (arith, x.1))) (h, omega arith) (λ t x. go t x (ℕ_discrete t (s + 1)))
+      pub hv-add : (y' : Supply) → Added (leaving None ends) None y y' → Queue N (HVBelow N (s + 1)) y'
+      hv-add y' a =
+          queue-add y q s 0 None refl (leaves-hv N d r s h) new (λ x. absurd (omega arith)) y' (subst (λ es. Added (leaving None es) None y y') e a)
+          (λ t x. (x.0, omega (arith, x.1))) (h, omega arith) (λ t x. go t x (ℕ_discrete t s))
         where
-          chain : Chain (2 * length N.lines) nexts (get_or chains s 0) (ends_at N (s + 1))
-          chain =
-              let i = root_in N d (station (s + 1)) h in
-              let e : s + 1 - 1 ≡ s = omega arith in
-              subst (λ c. Chain (2 * length N.lines) nexts (get_or chains c 0) (ends_at N (s + 1))) e (k.lists (s + 1) i.0 i.1)
-
-          go : (t : ℕ) → HVUpTo N (s + 1) t → Dec (t ≡ s + 1) → HVUpTo N s t ⊎ (t ≡ s + 1)
+          go : (t : ℕ) → HVBelow N (s + 1) t → Dec (t ≡ s) → HVBelow N s t ⊎ (t ≡ s)
           go t x (yes e) = inr e
           go t x (no e) = inl (x.0, omega (arith, x.1))
 
     -- all HV stations
-    pub hv-end : length N.stations ≤ s → Queue N (Reached N []) sides feeders order n
+    pub hv-end : length N.stations < s → Queue N (Reached N []) y
     unfolding at_hv
-    hv-end h = queue-same sides feeders order n q (λ t x. inl x.0) (λ t x. ⊎_elim (λ y. (y, omega (arith, (root_in N d (station t) y).1))) (λ y. absurd (mathlib.Core.List.Memᴰ.not-nil y.1)) x)
+    hv-end h = queue-same y q (λ t x. inl x.0) (λ t x. ⊎_elim (λ z. (z, omega (arith, (root_in N d (station t) z).1))) (λ z. absurd (Memᴰ.not-nil z.1)) x)
 
   -- ── the far station of a line ──
-  module _ (i : ℕ) (sides feeders order : List ℕ) (n : ℕ) (q : Queue N (Reached N (take i order)) sides feeders order n) (h : i < n) where
-    -- the line is one of the file, and its far end has this code
-    line-in : In N (line (get_or order i 0))
-    line-in = q.laid.inside (get_or order i 0) (queue-line sides feeders order n q i h)
+  module _ (i : ℕ) (y : Supply) (q : Queue N (Reached N (take i y.order.items)) y) (h : i < length y.order.items) (l : ℕ) (at : l ≡ get_or y.order.items i 0) where
+    -- the line at the place is one of the queue
+    stands : Memᴰ l y.order.items
+    stands = Memᴰ.cast at (at_place y.order.items i h)
 
-    near-noted : get_or sides (get_or order i 0 - 1) 0 ≡ (near_end N (get_or order i 0)).side
-    near-noted = (q.told (get_or order i 0) (queue-line sides feeders order n q i h)).0
+    line-in : In N (line l)
+    line-in = q.laid.inside l stands
 
-    near-side : (1 ≤ get_or sides (get_or order i 0 - 1) 0) × (get_or sides (get_or order i 0 - 1) 0 ≤ 2)
-    near-side = let x = side-of N (near_end N (get_or order i 0)) (near-end N d r (get_or order i 0) line-in).closed in (omega (arith, x.0, near-noted), omega (arith, x.1, near-noted))
+    pub line-there : LineThere N l
+    line-there = record { low = line-in.0; high = line-in.1 }
 
-    pub line-bounds : (1 ≤ get_or order i 0) × (get_or order i 0 ≤ 768) × (1 ≤ get_or sides (get_or order i 0 - 1) 0) × (get_or sides (get_or order i 0 - 1) 0 ≤ 2)
-    line-bounds = (line-in.0, omega (arith, line-in.1, d.line_count, d.head.lines.high), near-side.0, near-side.1)
+    near-noted : noted_near y l ≡ near_end N l
+    near-noted =
+        let own : l ≡ (near_end N l).line = sym (near-end N d r l line-in).own in
+        let side = (q.told l stands).0 in
+        λ j. record { line = own j; side = side j }
 
-    pub far-there : CodeThere N (2 * get_or order i 0 + 1 - get_or sides (get_or order i 0 - 1) 0)
-    far-there = record { read = d; low = omega (arith, line-in.0, near-side.1); high = omega (arith, line-in, near-side) }
+    far-noted : (f : End) → f ≡ far (noted_near y l) → f ≡ far (near_end N l)
+    far-noted f e = e ∙ ap far near-noted
 
-    far-coded : (code : ℕ) → code ≡ 2 * get_or order i 0 + 1 - get_or sides (get_or order i 0 - 1) 0 → code_end code ≡ far (near_end N (get_or order i 0))
-    far-coded code e =
-        let p : (code + 1) / 2 ≡ (near_end N (get_or order i 0)).line = omega (arith, near-side, (near-end N d r (get_or order i 0) line-in).own, line-in.0) in
-        let q : 2 - code % 2 ≡ 3 - (near_end N (get_or order i 0)).side = omega (arith, near-side, near-noted, line-in.0) in
-        λ j. record { line = p j; side = q j }
+    pub far-line : (f : End) → f ≡ far (noted_near y l) → LineThere N f.line
+    far-line f e = subst (LineThere N) (sym (ap (λ (x : End). x.line) e)) line-there
 
-    one_more : take (i + 1) order ≡ take i order ++ (get_or order i 0 ∷ [])
-    one_more = ap (λ k. take k order) (add-one i) ∙ take-suc order i 0 (omega (arith, q.most, q.orders))
+    one_more : take (i + 1) y.order.items ≡ take i y.order.items ++ (l ∷ [])
+    one_more = ap (λ k. take k y.order.items) (add-one i) ∙ take-suc y.order.items i 0 h ∙ ap (λ n. take i y.order.items ++ (n ∷ [])) (sym at)
 
-    reached-less : (t : ℕ) → Reached N (take i order) t → Reached N (take (i + 1) order) t
-    reached-less t x = ⊎_elim (λ y. inl y) (λ y. inr (y.0, rw one_more (mathlib.Core.List.Memᴰ.append_left _ y.1), y.2, y.3)) x
+    reached-less : (t : ℕ) → Reached N (take i y.order.items) t → Reached N (take (i + 1) y.order.items) t
+    reached-less t x = ⊎_elim (λ z. inl z) (λ z. inr (z.0, rw one_more (Memᴰ.append_left _ z.1), z.2, z.3)) x
 
-    reached-more : (t : ℕ) → Reached N (take (i + 1) order) t → Reached N (take i order) t ⊎ ((is_open N (far (near_end N (get_or order i 0))) ≡ false) × (station_at N (far (near_end N (get_or order i 0))) ≡ t))
-    reached-more t x = ⊎_elim (λ y. inl (inl y)) (λ y. go y.0 y.2 y.3 (mathlib.Core.List.Memᴰ.append_cases (take i order) (subst (Memᴰ y.0) one_more y.1))) x
+    reached-more : (t : ℕ) → Reached N (take (i + 1) y.order.items) t → Reached N (take i y.order.items) t ⊎ ((is_open N (far (near_end N l)) ≡ false) × (station_at N (far (near_end N l)) ≡ t))
+    reached-more t x = ⊎_elim (λ z. inl (inl z)) (λ z. go z.0 z.2 z.3 (Memᴰ.append_cases (take i y.order.items) (subst (Memᴰ z.0) one_more z.1))) x
       where
-        go : (l : ℕ) → is_open N (far (near_end N l)) ≡ false → station_at N (far (near_end N l)) ≡ t → Memᴰ l (take i order) ⊎ Memᴰ l (get_or order i 0 ∷ [])
-            → Reached N (take i order) t ⊎ ((is_open N (far (near_end N (get_or order i 0))) ≡ false) × (station_at N (far (near_end N (get_or order i 0))) ≡ t))
-        go l c p (inl m) = inl (inr (l, m, c, p))
-        go l c p (inr m) = let e = mathlib.Core.List.Memᴰ.eq_of_singleton m in inr (ap (λ k. is_open N (far (near_end N k))) (sym e) ∙ c, ap (λ k. station_at N (far (near_end N k))) (sym e) ∙ p)
+        go : (k : ℕ) → is_open N (far (near_end N k)) ≡ false → station_at N (far (near_end N k)) ≡ t → Memᴰ k (take i y.order.items) ⊎ Memᴰ k (l ∷ [])
+            → Reached N (take i y.order.items) t ⊎ ((is_open N (far (near_end N l)) ≡ false) × (station_at N (far (near_end N l)) ≡ t))
+        go k c p (inl m) = inl (inr (k, m, c, p))
+        go k c p (inr m) = let e = Memᴰ.eq_of_singleton m in inr (ap (λ k. is_open N (far (near_end N k))) (sym e) ∙ c, ap (λ k. station_at N (far (near_end N k))) (sym e) ∙ p)
 
-    pub far-skip : (code : ℕ) → code ≡ 2 * get_or order i 0 + 1 - get_or sides (get_or order i 0 - 1) 0 → is_open N (code_end code) ≡ true → Queue N (Reached N (take (i + 1) order)) sides feeders order n
-    far-skip code e o = queue-same sides feeders order n q reached-less (λ t x. ⊎_elim (λ y. y) (λ y. absurd (true≢false (sym o ∙ ap (is_open N) (far-coded code e) ∙ y.0))) (reached-more t x))
+    pub far-skip : (f : End) → f ≡ far (noted_near y l) → is_open N f ≡ true → Queue N (Reached N (take (i + 1) y.order.items)) y
+    far-skip f e o = queue-same y q reached-less (λ t x. ⊎_elim (λ z. z) (λ z. absurd (true≢false (sym o ∙ ap (is_open N) (far-noted f e) ∙ z.0))) (reached-more t x))
 
-    module _ (f : End) (e : f ≡ far (near_end N (get_or order i 0))) (c : is_open N f ≡ false) where
+    module _ (f : End) (e : f ≡ far (noted_near y l)) (c : is_open N f ≡ false) where
+      is-far : f ≡ far (near_end N l)
+      is-far = far-noted f e
+
       first : FarEnd N (station_at N f) f
-      first = rw e (far-first N d r (get_or order i 0) line-in (ap (is_open N) (sym e) ∙ c))
+      first = rw is-far (far-first N d r l line-in (ap (is_open N) (sym is-far) ∙ c))
 
-      own : f.line ≡ get_or order i 0
-      own = ap (λ (x : End). x.line) e ∙ (near-end N d r (get_or order i 0) line-in).own
+      own : f.line ≡ l
+      own = ap (λ (x : End). x.line) is-far ∙ (near-end N d r l line-in).own
 
       -- no other line leads to it
-      new-far : Reached N (take i order) (station_at N f) → ⊥
-      new-far x = ⊎_elim (λ y. hv y (hv-path N d r (station_at N f) y) first.path) (λ y. other y.0 y.1 y.2 y.3) x
+      new-far : Reached N (take i y.order.items) (station_at N f) → ⊥
+      new-far x = ⊎_elim (λ z. hv z (hv-path N d r (station_at N f) z) first.path) (λ z. other z.0 z.1 z.2 z.3) x
         where
           hv : is_hv N (station_at N f) ≡ true → path_to_hv N (station (station_at N f)) ≡ [] → path_to_hv N (station (station_at N f)) ≡ f ∷ path_to_hv N (line f.line) → ⊥
-          hv y a b = let z : ◌≡◌ {A = ℕ} 0 1 = cc in omega arith
+          hv z a b = let z : ◌≡◌ {A = ℕ} 0 1 = cc in omega arith
 
-          other : (l : ℕ) → Memᴰ l (take i order) → is_open N (far (near_end N l)) ≡ false → station_at N (far (near_end N l)) ≡ station_at N f → ⊥
-          other l m k p =
-              let w : Memᴰ l (take i (take n order)) = rw (take-take i n order (omega arith)) m in
-              let b = q.laid.inside l (before (take n order) i w) in
-              let g = far-first N d r l b k in
-              let z = chains (far (near_end N l)) (sym g.path ∙ ap (λ t. path_to_hv N (station t)) p ∙ first.path) in
-              let y : l ≡ get_or (take n order) i 0 = sym (near-end N d r l b).own ∙ ap (λ (x : End). x.line) z ∙ own ∙ sym (get_or-take n order i 0 h) in
-              once-place (take n order) i (omega (arith, length-take-le n order (omega (arith, q.most, q.orders)))) q.laid.once (mathlib.Core.List.Memᴰ.cast (sym y) w)
+          other : (k : ℕ) → Memᴰ k (take i y.order.items) → is_open N (far (near_end N k)) ≡ false → station_at N (far (near_end N k)) ≡ station_at N f → ⊥
+          other k m o p =
+              let b = q.laid.inside k (in-take y.order.items i m) in
+              let g = far-first N d r k b o in
+              let z = chains (far (near_end N k)) (sym g.path ∙ ap (λ t. path_to_hv N (station t)) p ∙ first.path) in
+              let u : k ≡ l = sym (near-end N d r k b).own ∙ ap (λ (x : End). x.line) z ∙ own in
+              once-place y.order.items i h q.laid.once (Memᴰ.cast (sym (u ∙ at)) m)
             where
               chains : (g : End) {ds fs : List End} → g ∷ ds ≡ f ∷ fs → g ≡ f
               chains g x = cc
 
-              before : (xs : List ℕ) (i : ℕ) → Memᴰ l (take i xs) → Memᴰ l xs
-              before [] zero m = m
-              before [] (suc i) m = m
-              before (x ∷ xs) zero m = absurd (mathlib.Core.List.Memᴰ.not-nil m)
-              before (x ∷ xs) (suc i) m = ⊎_elim (λ e. mathlib.Core.List.Memᴰ.head e) (λ k. mathlib.Core.List.Memᴰ.tail (before xs i k)) (mathlib.Core.List.Memᴰ.cases_cons m)
+      -- its lines follow
+      leaves : Leaves N (station_at N f) (leaving (Some l) (ends_at N (station_at N f))) l
+      leaves = subst (λ n. Leaves N (station_at N f) (leaving (Some n) (ends_at N (station_at N f))) n) own (leaves-far N d r (station_at N f) f first)
 
-    -- its lines follow
-    module _ (code : ℕ) (e : code ≡ 2 * get_or order i 0 + 1 - get_or sides (get_or order i 0 - 1) 0) (c : is_open N (code_end code) ≡ false) (s : ℕ) (p : s ≡ station_at N (code_end code)) where
-      is-far : code_end code ≡ far (near_end N (get_or order i 0))
-      is-far = far-coded code e
+      pub far-station : In N (station (station_at N f))
+      far-station = let x = closed-end N f c in station-in N d f x.0 x.1
 
-      leaves : Leaves N s (leaving code (ends_at N s)) (get_or order i 0)
-      leaves =
-          let k : end_code (code_end code) ≡ code = omega (arith, near-side, line-in.0) in
-          rw p (subst (λ l. Leaves N (station_at N (code_end code)) (leaving code (ends_at N (station_at N (code_end code)))) l) (own (code_end code) is-far c)
-          (subst (λ x. Leaves N (station_at N (code_end code)) (leaving x (ends_at N (station_at N (code_end code)))) (code_end code).line) k (leaves-far N d r (station_at N (code_end code)) (code_end code) (first (code_end code) is-far c))))
+      module _ (ends : List End) (z : ends ≡ ends_at N (station_at N f)) where
+        pub far-room : Room y ends (Some l)
+        far-room = queue-room y q (station_at N f) l (Some l) (line-some l line-in.0) leaves new-far (λ x. stands) ends z
 
-      new-here : Reached N (take i order) s → ⊥
-      new-here x = new-far (code_end code) is-far c (subst (Reached N (take i order)) p x)
-
-      station-there : In N (station s)
-      station-there = let x = closed-end N (code_end code) c in rw p (station-in N d (code_end code) x.0 x.1)
-
-      module _ (chains nexts : List ℕ) (k : Linked N chains nexts) where
-        pub far-room : Room nexts (get_or chains (s - 1) 0) code n
-        far-room = queue-room sides feeders order n q s code (get_or order i 0) leaves new-here (λ x. queue-line sides feeders order n q i h) chains nexts k station-there
-
-        pub far-add : (sides' feed' order' : List ℕ) (n' : ℕ)
-            → ((most : ℕ) (es : List End) → Chain most nexts (get_or chains (s - 1) 0) es → Added (leaving code es) (get_or order i 0) n sides feeders order sides' feed' order' n')
-            → Queue N (Reached N (take (i + 1) order')) sides' feed' order' n' × (n ≤ n')
-        far-add sides' feed' order' n' a = (
-          subst (λ ls. Queue N (Reached N ls) sides' feed' order' n') (sym (queue-kept sides feeders order n q s code (get_or order i 0) leaves new-here known sides' feed' order' n' added (i + 1) (omega arith)))
-              (queue-add sides feeders order n q s code (get_or order i 0) leaves new-here known sides' feed' order' n' added reached-less
-              (inr (get_or order i 0, rw one_more (mathlib.Core.List.Memᴰ.append_right (take i order) (mathlib.Core.List.Memᴰ.head refl)), ap (is_open N) (sym is-far) ∙ c, ap (station_at N) (sym is-far) ∙ sym p))
-              (λ t x. ⊎_elim (λ y. inl y) (λ y. inr (sym y.1 ∙ ap (station_at N) (sym is-far) ∙ sym p)) (reached-more t x))),
-          omega (arith, added.counted),
+        pub far-add : (y' : Supply) → Added (leaving (Some l) ends) (Some l) y y' → Queue N (Reached N (take (i + 1) y'.order.items)) y' × (i < length y'.order.items)
+        far-add y' a = (
+          subst (λ ls. Queue N (Reached N ls) y') (sym (queue-kept y q (station_at N f) l (Some l) (line-some l line-in.0) leaves new-far (λ x. stands) y' added (i + 1) (omega arith)))
+              (queue-add y q (station_at N f) l (Some l) (line-some l line-in.0) leaves new-far (λ x. stands) y' added reached-less
+              (inr (l, rw one_more (Memᴰ.append_right (take i y.order.items) (Memᴰ.head refl)), ap (is_open N) (sym is-far) ∙ c, ap (station_at N) (sym is-far)))
+              (λ t x. ⊎_elim (λ u. inl u) (λ u. inr (sym u.1 ∙ ap (station_at N) (sym is-far))) (reached-more t x))),
+          omega (arith, queue-longer y q (station_at N f) l (Some l) (line-some l line-in.0) leaves new-far (λ x. stands) y' added),
         )
           where
-            known : 1 ≤ get_or order i 0 → Memᴰ (get_or order i 0) (take n order)
-            known x = queue-line sides feeders order n q i h
-
-            added : Added (leaving code (ends_at N s)) (get_or order i 0) n sides feeders order sides' feed' order' n'
-            added = a (2 * length N.lines) (ends_at N s) (k.lists s station-there.0 station-there.1)
+            added : Added (leaving (Some l) (ends_at N (station_at N f))) (Some l) y y'
+            added = subst (λ es. Added (leaving (Some l) es) (Some l) y y') z a
 
   -- every line has had its turn
-  pub queue-end : (i : ℕ) (sides feeders order : List ℕ) (n : ℕ) → Queue N (Reached N (take i order)) sides feeders order n → i ≡ n → Outwards N sides feeders order
-  queue-end i sides feeders order n q e = record {
-    nears = λ l a b. (q.told l (all l a b)).0;
-    feeds = λ l a b. (q.told l (all l a b)).1;
-    listed = λ l a b. let x = place_of (all l a b) in (x.0, omega (arith, x.1, full), sym (get_or-take n order x.0 0 (omega (arith, x.1, long))) ∙ x.2);
-    inside = λ j h. q.laid.inside (get_or order j 0) (queue-line sides feeders order n q j (omega (arith, full, long)));
-    after = λ j h a.
-        let x = get_or-take n order j 0 (omega (arith, full, long)) in
-        let y = q.laid.after j (omega (arith, full)) (subst (λ l. 1 ≤ feeder N l) (sym x) a) in
-        (y.0, y.1, sym (get_or-take n order y.0 0 (omega (arith, y.1, full, long))) ∙ y.2 ∙ ap (feeder N) x);
+  pub queue-end : (i : ℕ) (y : Supply) → Queue N (Reached N (take i y.order.items)) y → length y.order.items ≤ i → Whole N y
+  queue-end i y q h = subst (λ ls. Queue N (Reached N ls) y) (take-whole y.order.items i h) q
+
+  pub grown : (t : Tree) → Linked N t.lists → Whole N t.supply → HoldsTree N t
+  grown t k q = record {
+    stations = (read_fits N d).stations;
+    lines = (read_fits N d).lines;
+    has = λ s i. linked-has N d t.lists k s (i.low, i.high);
+    ends = λ s i. linked-ends N d t.lists k s (i.low, i.high);
+    nears = λ l i.
+        let own : l ≡ (near_end N l).line = sym (near-end N d r l (i.low, i.high)).own in
+        let side = (q.told l (all l i)).0 in
+        λ j. record { line = own j; side = side j };
+    feeds = λ l i. (q.told l (all l i)).1;
+    count = full;
+    listed = λ l i. let x = place_of (all l i) in (x.0, omega (arith, x.1, full), x.2);
+    inside = λ j h. let x = q.laid.inside (get_or t.supply.order.items j 0) (at_place t.supply.order.items j (omega (arith, full))) in record { low = x.0; high = x.1 };
+    after = λ j h a. q.laid.after j (omega (arith, full)) a;
   }
     where
-      ended : Laid N (Reached N (take n order)) (take n order)
-      ended = subst (λ k. Laid N (Reached N (take k order)) (take n order)) e q.laid
+      full : length t.supply.order.items ≡ length N.lines
+      full = laid-full N d r q.laid
 
-      long : length (take n order) ≡ n
-      long = length-take-le n order (omega (arith, q.most, q.orders))
-
-      full : length (take n order) ≡ length N.lines
-      full = laid-full N d r ended
-
-      all : (l : ℕ) → 1 ≤ l → l ≤ length N.lines → Memᴰ l (take n order)
-      all l a b = laid-all N d r ended l (a, b)
+      all : (l : ℕ) → LineThere N l → Memᴰ l t.supply.order.items
+      all l i = laid-all N d r q.laid l (i.low, i.high)

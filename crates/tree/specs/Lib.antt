@@ -1,5 +1,5 @@
 pub mod Linked
 pub mod Outwards
-pub mod Codes
-pub mod Queue
 pub mod Feeding
+pub mod Held
+pub mod Queue

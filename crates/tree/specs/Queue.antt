@@ -1,48 +1,67 @@
--- The queue of lines that goes outwards from the HV stations, in three buffers: the first entries of `order` are the lines that
--- have been reached, `near` and `feeders` have the near end and the feeding line of each.
-use Rattle.std.specs.Prelude.{ℕ, ◌+◌, ◌-◌, ◌≤◌, ◌<◌, ◌≡◌, true, false, not, ◌⊎◌, eqb, length, get_or, take, set}
-use mathlib.Core.List.{List, [], ◌∷◌, Memᴰ}
-use Rattle.model.specs.Lists.{keep}
+-- How a tree grows: the lists of closed ends from the last line to the first, and the queue of lines that goes outwards from the HV
+-- stations. The lines of the queue have been reached, and the near end and the feeding line of each are noted.
+use Rattle.std.specs.Prelude.{ℕ, ◌+◌, ◌*◌, ◌-◌, ◌≤◌, ◌<◌, ◌≡◌, true, false, not, Bool, Option, None, Some, ◌⊎◌, eqb, length, get_or, set}
+use mathlib.Core.List.{List, [], ◌∷◌, ◌++◌, map, Memᴰ}
+use Rattle.model.specs.Lists.{keep, numbers}
 use Rattle.model.specs.Network.{Network}
 use Rattle.model.specs.Paths.{line, End, is_open, station_at, is_hv}
 use Rattle.graphs.specs.Graph.{NoRepeat}
 use Rattle.theory.specs.Radial.{In}
 use Rattle.theory.specs.Behind.{far}
-use Rattle.tree.specs.Linked.{end_code, Chain}
-use Rattle.tree.specs.Outwards.{near_end, feeder}
+use Rattle.network.specs.declared.Side.{Side}
+use Rattle.network.specs.declared.Side.TheVariants.{One}
+use Rattle.network.specs.View.{side_number, side_of}
+use Rattle.tree.specs.Linked.{code_end, LineHeld, Chain, ends_at}
+use Rattle.tree.specs.Outwards.{near_end, feeder, fed_by}
+use Rattle.tree.specs.declared.Lists.{Lists}
+use Rattle.tree.specs.declared.Supply.{Supply}
+
+-- ── the lists of closed ends ──
+-- the closed ends whose codes are above c, and those of them at a station
+abbrev pub closed_above : Network → ℕ → List End
+closed_above N c = keep (λ e. not (is_open N e)) (map code_end (numbers (c + 1) (2 * length N.lines - c)))
+
+abbrev pub at_above : Network → ℕ → ℕ → List End
+at_above N s c = keep (λ e. eqb (station_at N e) s) (closed_above N c)
+
+-- each station's list has the closed ends at it whose codes are above c
+pub record LinkedAbove (N : Network) (c : ℕ) (x : Lists) : Type 0 where
+  pub lists : (s : ℕ) → 1 ≤ s → s ≤ length N.stations → Chain x.nexts (get_or x.firsts (s - 1) None) (at_above N s c)
+  pub above : (s : ℕ) → 1 ≤ s → s ≤ length N.stations → (d : ℕ) → get_or x.firsts (s - 1) None ≡ Some d → c < d
+
+-- each station's list has the closed ends at it
+abbrev pub Linked : Network → Lists → Type 0
+Linked N x = (s : ℕ) → 1 ≤ s → s ≤ length N.stations → Chain x.nexts (get_or x.firsts (s - 1) None) (ends_at N s)
 
 -- ── one list of ends ──
--- the ends of a list but for the one with a code
-abbrev pub leaving : ℕ → List End → List End
-leaving came es = keep (λ e. not (eqb (end_code e) came)) es
+-- whether an end is of the line that feeds its station
+abbrev pub of_feeder : Option ℕ → End → Bool
+of_feeder None e = false
+of_feeder (Some l) e = eqb e.line l
 
--- the buffers when the lines of some ends are added
-unfoldable pub sides_after : List ℕ → List End → List ℕ
+-- the ends of a list but for that of the line that feeds their station
+abbrev pub leaving : Option ℕ → List End → List End
+leaving fed es = keep (λ e. not (of_feeder fed e)) es
+
+-- what is noted when the lines of some ends are added
+unfoldable pub sides_after : List Side → List End → List Side
 sides_after sides [] = sides
-sides_after sides (e ∷ es) = sides_after (set sides (e.line - 1) e.side) es
+sides_after sides (e ∷ es) = sides_after (set sides (e.line - 1) (side_of e.side)) es
 
-unfoldable pub feed_after : ℕ → List ℕ → List End → List ℕ
+unfoldable pub feed_after : Option ℕ → List (Option ℕ) → List End → List (Option ℕ)
 feed_after fed feeders [] = feeders
 feed_after fed feeders (e ∷ es) = feed_after fed (set feeders (e.line - 1) fed) es
 
-unfoldable pub order_after : List ℕ → ℕ → List End → List ℕ
-order_after order n [] = order
-order_after order n (e ∷ es) = order_after (set order n e.line) (n + 1) es
-
 -- there is room for the lines of the ends in a list
-pub record Room (nexts : List ℕ) (first came count : ℕ) : Type 0 where
-  pub most : ℕ
-  pub small : most ≤ 1536
-  pub ends : List End
-  pub chain : Chain most nexts first ends
-  pub fits : count + length (leaving came ends) ≤ 768
+pub record Room (y : Supply) (ends : List End) (fed : Option ℕ) : Type 0 where
+  pub lines : (e : End) → Memᴰ e ends → LineHeld e.line
+  pub fits : length y.order.items + length (leaving fed ends) ≤ 768
 
--- the buffers with the lines of these ends added
-pub record Added (es : List End) (fed count : ℕ) (sides feeders order sides' feed' order' : List ℕ) (r : ℕ) : Type 0 where
-  pub nears : sides' ≡ sides_after sides es
-  pub feeds : feed' ≡ feed_after fed feeders es
-  pub orders : order' ≡ order_after order count es
-  pub counted : r ≡ count + length es
+-- the lines of these ends are added
+pub record Added (es : List End) (fed : Option ℕ) (old new : Supply) : Type 0 where
+  pub nears : new.sides ≡ sides_after old.sides es
+  pub feeds : new.feeders ≡ feed_after fed old.feeders es
+  pub orders : new.order.items ≡ old.order.items ++ map (λ e. e.line) es
 
 -- ── the queue ──
 -- the lines reached are those whose near station is one of `Done`; each comes after the one that feeds it
@@ -53,22 +72,24 @@ pub record Laid (N : Network) (Done : ℕ → Type 0) (ls : List ℕ) : Type 0 w
   pub once : NoRepeat ls
   pub after : (i : ℕ) → i < length ls → 1 ≤ feeder N (get_or ls i 0) → (j : ℕ) × (j < i) × (get_or ls j 0 ≡ feeder N (get_or ls i 0))
 
--- what the buffers say of lines
-abbrev pub Told : Network → List ℕ → List ℕ → List ℕ → Type 0
-Told N sides feeders ls = (l : ℕ) → Memᴰ l ls → (get_or sides (l - 1) 0 ≡ (near_end N l).side) × (get_or feeders (l - 1) 0 ≡ feeder N l)
+-- what is noted of lines
+abbrev pub Told : Network → List Side → List (Option ℕ) → List ℕ → Type 0
+Told N sides feeders ls = (l : ℕ) → Memᴰ l ls → (side_number (get_or sides (l - 1) One) ≡ (near_end N l).side) × (get_or feeders (l - 1) None ≡ fed_by N l)
 
-pub record Queue (N : Network) (Done : ℕ → Type 0) (sides feeders order : List ℕ) (n : ℕ) : Type 0 where
-  pub most : n ≤ 768
-  pub laid : Laid N Done (take n order)
-  pub told : Told N sides feeders (take n order)
-  pub nears : length sides ≡ 768
-  pub feeds : length feeders ≡ 768
-  pub orders : length order ≡ 768
+pub record Queue (N : Network) (Done : ℕ → Type 0) (y : Supply) : Type 0 where
+  pub laid : Laid N Done y.order.items
+  pub told : Told N y.sides y.feeders y.order.items
+  pub nears : length y.sides ≡ 768
+  pub feeds : length y.feeders ≡ 768
 
--- the HV stations up to one
-abbrev pub HVUpTo : Network → ℕ → ℕ → Type 0
-HVUpTo N s t = (is_hv N t ≡ true) × (t ≤ s)
+-- the HV stations below one
+abbrev pub HVBelow : Network → ℕ → ℕ → Type 0
+HVBelow N s t = (is_hv N t ≡ true) × (t < s)
 
 -- the HV stations, and the far stations of some lines
 abbrev pub Reached : Network → List ℕ → ℕ → Type 0
 Reached N ls t = (is_hv N t ≡ true) ⊎ ((l : ℕ) × Memᴰ l ls × (is_open N (far (near_end N l)) ≡ false) × (station_at N (far (near_end N l)) ≡ t))
+
+-- every line of the network has been reached
+abbrev pub Whole : Network → Supply → Type 0
+Whole N y = Queue N (Reached N y.order.items) y

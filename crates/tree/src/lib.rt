@@ -1,197 +1,315 @@
-// The tree of a radial network: lists of the closed ends at each station, and the lines from the HV stations outwards. An end has a
-// code: 1 and 2 are the ends of line 1, 3 and 4 those of line 2; 0 is none.
+// The tree of a radial network: the closed ends at each station, how each line is fed, and the lines from the HV stations outwards.
 #![tactic(auto)]
 
-ghost use Rattle.std.specs.Prelude.{ℕ, ◌+◌, ◌≤◌, ◌<◌, ◌≡◌, not, List, [], length, get_or, take};
-ghost use Rattle.model.specs.Paths.{End, is_open, station_at};
+ghost use Rattle.std.specs.Prelude.{ℕ, ◌+◌, ◌-◌, ◌^◌, ◌<◌, ◌≡◌, None, [], length, get_or, take};
+ghost use Rattle.model.specs.Paths.{is_open};
 ghost use Rattle.theory.specs.Reading.{Read};
 ghost use Rattle.theory.specs.Radial.{Rules};
-ghost use Rattle.tree.specs.Linked.{code_end, Chain, Linked};
-ghost use Rattle.tree.specs.Outwards.{Outwards};
-ghost use Rattle.tree.specs.Codes.{CodeThere};
-ghost use Rattle.tree.specs.Queue.{leaving, Room, Added, Queue, Reached};
+ghost use Rattle.theory.specs.Behind.{far};
+ghost use Rattle.network.specs.There.{LineThere};
+ghost use Rattle.tree.specs.Linked.{end_code, code_end, LineHeld, EndHeld};
+ghost use Rattle.tree.specs.Held.{HasList, listed_ends, noted_near, HasEnds, ends_in, near_in, feeder_in, lines_in, HoldsTree};
+ghost use Rattle.tree.specs.Queue.{LinkedAbove, Linked, of_feeder, leaving, Room, Added, Queue, Reached, Whole};
 
-use network::Network;
+use arrayvec::ArrayVec;
+use network::{End, Network, Side};
+use std::marker::Model;
 
-// Whether the end with a code is closed.
-fn is_closed(net: &Network, code: usize) -> bool
-    requires { CodeThere net.now code }
-    ensures { result ≡ not (is_open net.now (code_end code)) }
+// The code of an end: 1 and 2 are the ends of line 1, 3 and 4 those of line 2.
+pub fn code(end: End) -> usize
+    requires { LineHeld end.line }
+    ensures value { result ≡ end_code end }
+    ensures there { EndHeld result end }
 {
-    !net.is_open((code + 1) / 2, 2 - code % 2)
+    2 * (end.line - 1) + end.side.number()
 }
 
-// The station that the end with a code is at.
-fn station_of(net: &Network, code: usize) -> usize
-    requires { CodeThere net.now code }
-    ensures { (result ≡ station_at net.now (code_end code)) × (1 ≤ result)
-        × (result ≤ length net.now.stations) }
+// The end with a code.
+pub fn end_of(code: usize) -> End
+    requires { code < 2 ^ 32 }
+    ensures { result ≡ code_end code }
 {
-    net.end_station((code + 1) / 2, 2 - code % 2)
-}
-
-// Every station's list is empty.
-fn clear(chains: &mut [u64; 512], nexts: &mut [u64; 1536])
-    ensures { ((k : ℕ) → get_or chains.new k 0 ≡ 0) × (length chains.new ≡ 512)
-        × (length nexts.new ≡ 1536) }
-{
-    *chains = [0; 512];
-    *nexts = [0; 1536];
-}
-
-// The list of the closed ends at each station, by rising codes.
-pub fn link_ends(net: &Network, chains: &mut [u64; 512], nexts: &mut [u64; 1536])
-    requires { Read net.now }
-    ensures { Linked net.now chains.new nexts.new }
-{
-    clear(chains, nexts);
-    let mut code = 2 * net.line_count();
-    while code != 0 {
-        if is_closed(net, code) {
-            let station = station_of(net, code);
-            nexts[code - 1] = chains[station - 1];
-            chains[station - 1] = code as u64;
-        }
-        code -= 1;
+    let side = if code % 2 == 1 { Side::One } else { Side::Two };
+    End {
+        line: (code + 1) / 2,
+        side,
     }
 }
 
-// No line is noted.
-fn blank(sides: &mut [u64; 768], feeders: &mut [u64; 768], order: &mut [u64; 768])
-    ensures { (length sides.new ≡ 768) × (length feeders.new ≡ 768)
-        × (length order.new ≡ 768) }
-{
-    *sides = [0; 768];
-    *feeders = [0; 768];
-    *order = [0; 768];
+// The closed ends at a station that are left of its list, by rising codes. A clause sees the list of them.
+#[derive(Drop)]
+pub struct ClosedEnds<'a> {
+    nexts: &'a [Option<u16>; 1536],
+    code: Option<u16>,
 }
 
-// The lines of the ends in the list that begins with `first`, but for the end with code `came`, follow the first `count` lines
-// of the order; each end is its line's near end, and line `fed` feeds it. Returns how many lines the order has then.
-fn append(
-    nexts: &[u64; 1536],
-    sides: &mut [u64; 768],
-    feeders: &mut [u64; 768],
-    order: &mut [u64; 768],
-    first: usize,
-    came: usize,
-    fed: u64,
-    count: usize,
-) -> usize
-    requires { Room nexts.now first came count }
-    ensures { (most : ℕ) (es : List End) → Chain most nexts.now first es
-        → Added (leaving came es) fed count sides.old feeders.old order.old sides.new
-        feeders.new order.new result }
-{
-    let mut n = count;
-    let mut code = first;
-    while code != 0 {
-        let onward = code != came;
-        if onward {
-            let line = (code + 1) / 2;
-            sides[line - 1] = ((code + 1) % 2 + 1) as u64;
-            feeders[line - 1] = fed;
-            order[n] = line as u64;
-            n += 1;
-        }
-        code = nexts[code - 1] as usize;
+impl<'a> Model for ClosedEnds<'a> {
+    ghost use Rattle.std.specs.Prelude.{List};
+    ghost use Rattle.model.specs.Paths.{End as EdgeEnd};
+    ghost use Rattle.tree.specs.Linked.{along, Listed};
+
+    ghost Value = { List EdgeEnd };
+
+    ghost view = { λ e. along 1536 e.nexts.now e.code };
+
+    ghost invariant = { λ e. Listed e.nexts.now e.code };
+}
+
+impl<'a> Iterator for ClosedEnds<'a> {
+    ghost use Rattle.std.specs.Iterator.{YieldsFirst, item_count};
+
+    type Item = End;
+
+    ghost next_gives = { YieldsFirst (λ ends. ends) };
+
+    ghost remaining = { item_count (λ ends. ends) };
+
+    fn next(&mut self) -> Option<End> {
+        let code = self.code? as usize;
+        self.code = self.nexts[code - 1];
+        Some(end_of(code))
     }
-    n
 }
 
-// The lines that leave the HV stations. Returns how many there are.
-fn from_hv(
-    net: &Network,
-    chains: &[u64; 512],
-    nexts: &[u64; 1536],
-    sides: &mut [u64; 768],
-    feeders: &mut [u64; 768],
-    order: &mut [u64; 768],
-) -> usize
-    requires { Read net.now × Rules net.now
-        × Linked net.now chains.now nexts.now }
-    ensures { Queue net.now (Reached net.now []) sides.new
-        feeders.new order.new result }
-{
-    blank(sides, feeders, order);
-    let mut n = 0;
-    for s in 0..net.station_count() {
-        if net.is_hv(s + 1) {
-            n = append(nexts, sides, feeders, order, chains[s] as usize, 0, 0, n);
+// The list of the closed ends at each station, by codes: the first end of each station's list, and the end behind each end.
+#[derive(Drop)]
+struct Lists {
+    firsts: [Option<u16>; 512],
+    nexts: [Option<u16>; 1536],
+}
+
+impl Lists {
+    // Room for the lists, all of them empty.
+    fn new() -> Lists {
+        Lists {
+            firsts: [None; 512],
+            nexts: [None; 1536],
         }
     }
-    n
-}
 
-// The lines that leave the far station of the line at place i of the order, if its far end is closed, follow the n lines there.
-// Returns how many lines the order has then.
-fn from_line(
-    net: &Network,
-    chains: &[u64; 512],
-    nexts: &[u64; 1536],
-    sides: &mut [u64; 768],
-    feeders: &mut [u64; 768],
-    order: &mut [u64; 768],
-    i: usize,
-    n: usize,
-) -> usize
-    requires read { Read net.now × Rules net.now
-        × Linked net.now chains.now nexts.now }
-    requires queue { Queue net.now (Reached net.now (take i order.old)) sides.old feeders.old
-        order.old n × (i < n) }
-    ensures { Queue net.now (Reached net.now
-        (take (i + 1) order.new)) sides.new feeders.new order.new result × (i < result) }
-{
-    let line = order[i] as usize;
-    let code = 2 * line + 1 - sides[line - 1] as usize;
-    if !is_closed(net, code) {
-        return n;
+    // Leaves every list empty.
+    fn clear(&mut self)
+        ensures { (k : ℕ) → get_or self.new.firsts k None ≡ None }
+    {
+        self.firsts = [None; 512];
+        self.nexts = [None; 1536];
     }
-    let station = station_of(net, code);
-    append(
-        nexts,
-        sides,
-        feeders,
-        order,
-        chains[station - 1] as usize,
-        code,
-        line as u64,
-        n,
-    )
-}
 
-// The near end and the feeding line of each line, and an order of all lines from the HV stations outwards.
-pub fn outwards(
-    net: &Network,
-    chains: &[u64; 512],
-    nexts: &[u64; 1536],
-    sides: &mut [u64; 768],
-    feeders: &mut [u64; 768],
-    order: &mut [u64; 768],
-)
-    requires { Read net.now × Rules net.now
-        × Linked net.now chains.now nexts.now }
-    ensures { Outwards net.now sides.new feeders.new order.new }
-{
-    let mut n = from_hv(net, chains, nexts, sides, feeders, order);
-    let mut i = 0;
-    while i < n {
-        n = from_line(net, chains, nexts, sides, feeders, order, i, n);
-        i += 1;
+    // Puts an end, if it is closed, before those at its station, which have higher codes.
+    fn insert(&mut self, net: &Network, end: End)
+        requires { Read net.now × LineThere net.now end.line }
+        ensures { LinkedAbove net.now (end_code end) self.old
+            → LinkedAbove net.now (end_code end - 1) self.new }
+    {
+        let code = code(end);
+        if !net.is_open(end) {
+            let station = net.end_station(end);
+            self.nexts[code - 1] = self.firsts[station - 1];
+            self.firsts[station - 1] = Some(code as u16);
+        }
+    }
+
+    // Links the closed ends of a network, from the last line to the first.
+    fn link(&mut self, net: &Network)
+        requires { Read net.now }
+        ensures { Linked net.now self.new }
+    {
+        self.clear();
+        for line in (1..net.line_count() + 1).rev() {
+            self.insert(
+                net,
+                End {
+                    line,
+                    side: Side::Two,
+                },
+            );
+            self.insert(
+                net,
+                End {
+                    line,
+                    side: Side::One,
+                },
+            );
+        }
+    }
+
+    // The closed ends at a station.
+    fn closed_ends(&self, station: usize) -> ClosedEnds<'_>
+        requires { HasList self.now station }
+        ensures { result ≡ listed_ends self.now station }
+    {
+        ClosedEnds {
+            nexts: &self.nexts,
+            code: self.firsts[station - 1],
+        }
     }
 }
 
-// Room for a number of each station.
-pub fn stations_space() -> [u64; 512] {
-    [0; 512]
+// Whether an end is of the line that feeds its station, if one does.
+pub fn is_of(end: End, fed: Option<usize>) -> bool
+    ensures { result ≡ of_feeder fed end }
+{
+    match fed {
+        Some(line) => end.line == line,
+        None => false,
+    }
 }
 
-// Room for a number of each end.
-pub fn ends_space() -> [u64; 1536] {
-    [0; 1536]
+// How each line is fed: the side of its near end and the line that feeds its near station, none where that is an HV station. The lines
+// are in an order in which each comes after the one that feeds it.
+#[derive(Drop)]
+struct Supply {
+    sides: [Side; 768],
+    feeders: [Option<usize>; 768],
+    order: ArrayVec<usize, 768>,
 }
 
-// Room for a number of each line.
-pub fn lines_space() -> [u64; 768] {
-    [0; 768]
+impl Supply {
+    // Room for the lines, none of them noted.
+    fn new() -> Supply {
+        Supply {
+            sides: [Side::One; 768],
+            feeders: [None; 768],
+            order: ArrayVec::new(),
+        }
+    }
+
+    // The near end of a line.
+    fn near(&self, line: usize) -> End
+        requires { LineHeld line }
+        ensures { result ≡ noted_near self.now line }
+    {
+        End {
+            line,
+            side: self.sides[line - 1],
+        }
+    }
+
+    // Notes no line.
+    fn clear(&mut self)
+        ensures { (self.new.order.items ≡ []) × (length self.new.sides ≡ 768)
+            × (length self.new.feeders ≡ 768) }
+    {
+        self.order.clear();
+    }
+
+    // Notes the lines of some ends, but for the line that feeds their station: each end is its line's near end.
+    fn append(&mut self, ends: ClosedEnds<'_>, fed: Option<usize>)
+        requires { Room self.old ends fed }
+        ensures { Added (leaving fed ends.entry) fed self.old self.new }
+    {
+        for end in ends {
+            if !is_of(end, fed) {
+                self.sides[end.line - 1] = end.side;
+                self.feeders[end.line - 1] = fed;
+                self.order.push(end.line);
+            }
+        }
+    }
+
+    // Notes the lines that leave the HV stations.
+    fn start(&mut self, net: &Network, lists: &Lists)
+        requires { Read net.now × Rules net.now × Linked net.now lists.now }
+        ensures { Queue net.now (Reached net.now []) self.new }
+    {
+        self.clear();
+        for station in 1..net.station_count() + 1 {
+            if net.is_hv(station) {
+                self.append(lists.closed_ends(station), None);
+            }
+        }
+    }
+
+    // Notes the lines that leave the far station of the line at place i of the order, if its far end is closed.
+    fn follow(&mut self, net: &Network, lists: &Lists, i: usize)
+        requires read { Read net.now × Rules net.now × Linked net.now lists.now }
+        requires queue { Queue net.now (Reached net.now (take i self.old.order.items)) self.old
+            × (i < length self.old.order.items) }
+        ensures { Queue net.now (Reached net.now (take (i + 1) self.new.order.items)) self.new
+            × (i < length self.new.order.items) }
+    {
+        let line = self.order[i];
+        let far = self.near(line).other();
+        if !net.is_open(far) {
+            self.append(lists.closed_ends(net.end_station(far)), Some(line));
+        }
+    }
+
+    // Notes all lines, from the HV stations outwards.
+    fn spread(&mut self, net: &Network, lists: &Lists)
+        requires { Read net.now × Rules net.now × Linked net.now lists.now }
+        ensures { Whole net.now self.new }
+    {
+        self.start(net, lists);
+        let mut i = 0;
+        while i < self.order.len() {
+            self.follow(net, lists, i);
+            i += 1;
+        }
+    }
+}
+
+// The tree of a radial network.
+#[derive(Drop)]
+pub struct Tree {
+    lists: Lists,
+    supply: Supply,
+}
+
+impl Tree {
+    // Room for a tree. It is large for a stack, so it is grown where it lies.
+    pub fn new() -> Tree {
+        Tree {
+            lists: Lists::new(),
+            supply: Supply::new(),
+        }
+    }
+
+    // Makes it the tree of a network.
+    pub fn grow(&mut self, net: &Network)
+        requires { Read net.now × Rules net.now }
+        ensures { HoldsTree net.now self.new }
+    {
+        self.lists.link(net);
+        self.supply.spread(net, &self.lists);
+    }
+
+    // The end of a line nearer to the HV station.
+    pub fn near(&self, line: usize) -> End
+        requires { LineHeld line }
+        ensures { result ≡ near_in self.now line }
+    {
+        self.supply.near(line)
+    }
+
+    // The end of a line farther from the HV station.
+    pub fn far(&self, line: usize) -> End
+        requires { LineHeld line }
+        ensures { result ≡ far (near_in self.now line) }
+    {
+        self.near(line).other()
+    }
+
+    // The line that feeds the near station of a line, none where that is an HV station.
+    pub fn feeder(&self, line: usize) -> Option<usize>
+        requires { LineHeld line }
+        ensures { result ≡ feeder_in self.now line }
+    {
+        self.supply.feeders[line - 1]
+    }
+
+    // The lines from the HV stations outwards: each comes after the one that feeds it.
+    pub fn lines(&self) -> &[usize]
+        ensures { result.now ≡ lines_in self.now }
+    {
+        self.supply.order.as_slice()
+    }
+
+    // The closed ends at a station.
+    pub fn closed_ends(&self, station: usize) -> ClosedEnds<'_>
+        requires { HasEnds self.now station }
+        ensures { result ≡ ends_in self.now station }
+    {
+        self.lists.closed_ends(station)
+    }
 }

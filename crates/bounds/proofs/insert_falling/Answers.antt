@@ -1,20 +1,13 @@
-use Rattle.bounds.proofs.Inserting.{inserts-none, inserts-here, inserts-past, inserts-all}
+use mathlib.Core.Path.{ap, ◌∙◌}
+use lib.Dec.{leb}
+use Rattle.std.proofs.Common.{rules, tests}
+use Rattle.std.specs.Option.{unwrap_or}
+use Rattle.std.proofs.lemmas.Iterator.{YieldsList-from_slice}
+use Rattle.std.proofs.lemmas.Iterator.Search.{position_from_yields_List}
+use Rattle.bounds.proofs.Inserting.{inserted}
 use Rattle.bounds.proofs.insert_falling.Goals as goal
-use Rattle.bounds.proofs.insert_falling.Goals.{then-held-next, else-held-next}
-
-pub loop-i-init : goal.loop-i-init
-loop-i-init c = inserts-none c.args.list.now c.args.size c.args.number c.requires.1 c.requires.0 c.requires.2
-
-pub loop-i-preserved : goal.loop-i-preserved
-loop-i-preserved c =
-    let l = c.loop-i in
-    elim c.if-held-next.branch [
-      | then-held-next w ↦ rw (w.list-is, w.next-is) (inserts-here c.args.list.now c.args.size c.args.number c.requires.1 l.i l.next l.list l.invariant c.loop-i-test.true w.if-held-next.true)
-      | else-held-next w ↦ rw (w.list-is, w.next-is) (inserts-past c.args.list.now c.args.size c.args.number c.requires.1 l.i l.next l.list l.invariant c.loop-i-test.true w.if-held-next.false)
-    ]
 
 pub returns : goal.returns
 returns c =
-    let l = c.loop-i in
-    let all = inserts-all c.args.list.now c.args.size c.args.number c.requires.1 l.i l.next l.list l.invariant c.loop-i-test.false in
-    record { long = all.0; inserted = all.1 }
+    let found = position_from_yields_List (λ held. leb held c.args.saving) _ _ c.position.result c.position.ensures.ran (YieldsList-from_slice c.args.list.now.items cc) (λ x b q k. search (rules, tests)) in
+    c.insert.ensures.items ∙ inserted c.args.saving c.args.list.now.items found (c.unwrap_or-at.ensures ∙ ap (unwrap_or c.position.result) c.len.ensures.value)

@@ -1,6 +1,6 @@
-use mathlib.Core.Path.{sym, ◌∙◌}
+use mathlib.Core.Path.{sym, ap, ◌∙◌}
 use borrow.Author.Rules.{rules}
-use Rattle.model.specs.Rules.{unprotected}
+use Rattle.model.specs.Rules.{plain_at_hv, unprotected}
 use Rattle.end_rules.proofs.is_unprotected.Goals as goal
 
 pub returns-then-is_plain_at_hv : goal.returns-then-is_plain_at_hv
@@ -9,7 +9,7 @@ returns-then-is_plain_at_hv c = rw (sym c.is_plain_at_hv.ensures ∙ c.if-is_pla
 
 pub returns-else-is_plain_at_hv : goal.returns-else-is_plain_at_hv
 unfolding unprotected
-returns-else-is_plain_at_hv c = rw (sym c.is_plain_at_hv.ensures ∙ c.if-is_plain_at_hv.false) c.is_plain_at_hv-else-is_plain_at_hv.ensures
+returns-else-is_plain_at_hv c = rw (sym c.is_plain_at_hv.ensures ∙ c.if-is_plain_at_hv.false) (c.is_plain_at_hv-else-is_plain_at_hv.ensures ∙ ap (plain_at_hv c.args.net.now) c.other-two.ensures)
 
 pub is_plain_at_hv-requires : goal.is_plain_at_hv-requires
 is_plain_at_hv-requires c = search rules

@@ -20,5 +20,5 @@ pub returns : goal.returns
 returns c =
     let l = c.in_ok-load in
     let w = c.search_network-plan in
-    let all = file-answered c.args.file.now c.args.members.now c.in_ok-long_enough.ensures.enough c.load.new.self.network l.ensures.answer w.result w.ensures.found w.ensures.few w.ensures.long c.put_members.new.lent c.put_members.ensures in
+    let all = file-answered c.args.file.now c.args.members.now c.in_ok-long_enough.ensures.enough c.load.new.self.network l.ensures.answer w.result w.ensures.found c.put_members.new.lent c.put_members.ensures in
     rw c.outcome_of.ensures (record { result_value = all.result_value; members_after = all.members_after; demand3 = all.demand3 })

@@ -9,8 +9,8 @@ returns-in_err-load c =
     rw (p.1, p.2) (total-refused c.args.file.now c.in_err-load.ensures.answer)
 
 pub figure_of-figure-requires : goal.figure_of-figure-requires
-figure_of-figure-requires c = (c.in_ok-load.ensures.loaded.accepted.read, c.number-total.ensures ∙ c.total_of.ensures)
+figure_of-figure-requires c = (c.in_ok-load.ensures.loaded.accepted.read, c.from-total.ensures ∙ c.total_of.ensures)
 
 pub returns : goal.returns
 returns c =
-    total-given c.args.file.now c.number-total.result c.figure_of-figure.result c.in_ok-load.ensures.answer (c.number-total.ensures ∙ c.total_of.ensures) c.figure_of-figure.ensures
+    total-given c.args.file.now c.from-total.result c.figure_of-figure.result c.in_ok-load.ensures.answer (c.from-total.ensures ∙ c.total_of.ensures) c.figure_of-figure.ensures

@@ -1,25 +1,49 @@
-use Prim.Native.Nat.{◌-◌}
-use mathlib.Core.Path.{sym}
-use lib.ListN.{get_or}
-use Rattle.tree.specs.Outwards.{near_end}
-use Rattle.paths.specs.Meets.{path_beyond}
-use Rattle.paths.proofs.Passing.{meets-route, known-feeding}
-use borrow.Author.Rules.{rules}
+use mathlib.Core.Path.{sym, ◌∙◌, ap}
+use native.Mathlib.Omega.{arith}
+use Rattle.tree.specs.Held.{near_in}
+use Rattle.marks.specs.Held.{mark_on}
+use Rattle.paths.specs.declared.Met.{Met}
+use Rattle.paths.specs.Meets.{met_next, met_in}
+use Rattle.paths.proofs.Passing.{met-hv, fed-held, fed-few, met-fed}
 use Rattle.paths.proofs.line_met.Goals as goal
+use Rattle.paths.proofs.line_met.Goals.{in-None, in-Some}
 
-pub met_beyond-beyond-requires : goal.met_beyond-beyond-requires
-met_beyond-beyond-requires c = known-feeding c.requires
+pub overflow_sub-met : goal.overflow_sub-met
+overflow_sub-met c = (fed-held c.requires c.in-Some.feeder (sym c.in-Some.ensures)).low
 
-pub near_code-requires : goal.near_code-requires
-near_code-requires c =
-    (c.requires.read, c.requires.rules, c.requires.fed.nears, record { low = c.requires.low; high = c.requires.high })
+pub offset_bounds-mets-feeder : goal.offset_bounds-mets-feeder
+offset_bounds-mets-feeder c = omega (arith, fed-held c.requires c.in-Some.feeder (sym c.in-Some.ensures))
 
-pub met_from-requires : goal.met_from-requires
-met_from-requires c = (c.near_code.ensures.1, c.met_beyond-beyond.ensures.few)
+pub bounds-mets-feeder : goal.bounds-mets-feeder
+bounds-mets-feeder c = omega (arith, fed-held c.requires c.in-Some.feeder (sym c.in-Some.ensures))
+
+pub far_mark-requires : goal.far_mark-requires
+far_mark-requires c = fed-held c.requires c.in-Some.feeder (sym c.in-Some.ensures)
+
+pub behind-beyond-requires : goal.behind-beyond-requires
+behind-beyond-requires c = omega (arith, fed-few c.requires c.in-Some.feeder (sym c.in-Some.ensures))
+
+pub behind-requires : goal.behind-requires
+behind-requires c = elim c.match-feeder.branch [
+  | in-None w ↦ omega (arith, ap (λ (m : Met). m.count) w.beyond-is)
+  | in-Some w ↦ omega (
+    arith,
+    ap (λ (m : Met). m.count) w.beyond-is,
+    w.behind-beyond.ensures.few,
+    fed-few c.requires w.in-Some.feeder (sym w.in-Some.ensures),
+  )
+]
 
 pub returns : goal.returns
 returns c =
-    let N = c.args.net.now in
-    let l = c.args.line in
-    let k = get_or c.args.feeders.now (l - 1) 0 in
-    meets-route N c.requires.read c.requires.rules l c.requires.low c.requires.high c.args.marks.now k c.met_from.result (c.requires.fed.feeds l c.requires.low c.requires.high) (c.met_from.ensures.met (near_end N l) (path_beyond N k) (sym c.near_code.ensures.0) c.met_beyond-beyond.ensures.met)
+    let marks = c.args.marks.now in
+    let near = c.on.ensures ∙ ap (mark_on marks) c.near.ensures in
+    c.behind.ensures.met
+    ∙ ap (λ m. met_next m c.match-feeder.beyond) near
+    ∙ elim c.match-feeder.branch [
+      | in-None w ↦ ap (met_next (mark_on marks (near_in c.args.tree.now c.args.line))) w.beyond-is ∙ met-hv c.requires (sym w.in-None.ensures)
+      | in-Some w ↦
+          ap (met_next (mark_on marks (near_in c.args.tree.now c.args.line)))
+          (w.beyond-is ∙ w.behind-beyond.ensures.met ∙ ap (λ m. met_next m (met_in c.args.mets.now w.in-Some.feeder)) w.far_mark.ensures)
+          ∙ met-fed c.requires w.in-Some.feeder (sym w.in-Some.ensures)
+    ]

@@ -1,36 +1,30 @@
-use Prim.Native.Nat.{◌-◌}
-use mathlib.Core.Path.{◌≡◌, refl, subst}
+use mathlib.Core.Path.{refl, ap, ◌∙◌}
 use native.Mathlib.Omega.{arith}
-use lib.ListN.{take}
+use lib.Seq.{take_all}
 use Rattle.model.specs.Sets.{with_breakers}
-use Rattle.planning.proofs.Changing.{place-there, end-there, one_more}
+use Rattle.planning.proofs.Changing.{place-there, line-there, one_more}
 use Rattle.planning.proofs.add_breakers.Goals as goal
 
-pub loop-i-init : goal.loop-i-init
+pub loop-place-init : goal.loop-place-init
 unfolding with_breakers
-loop-i-init c = (omega arith, refl)
+loop-place-init c = refl
 
-pub place_line-line-requires : goal.place_line-line-requires
-place_line-line-requires c =
-    let l = c.loop-i in
-    place-there c.args.net.now c.args.set.now c.args.count c.requires l.net l.i l.invariant.1 (omega arith)
-
-pub place_side-side-requires : goal.place_side-side-requires
-place_side-side-requires c =
-    let l = c.loop-i in
-    place-there c.args.net.now c.args.set.now c.args.count c.requires l.net l.i l.invariant.1 (omega arith)
+pub place_end-end-requires : goal.place_end-end-requires
+place_end-end-requires c =
+    let l = c.loop-place in
+    place-there c.args.net.now c.requires.0 c.args.members.now c.requires.1 l.net l.place-index l.invariant (omega arith)
 
 pub add_breaker-requires : goal.add_breaker-requires
 add_breaker-requires c =
-    let l = c.loop-i in
-    end-there c.args.net.now c.args.set.now c.args.count c.requires l.net l.i l.invariant.1 (omega arith) c.place_line-line.ensures c.place_side-side.ensures
+    let l = c.loop-place in
+    line-there c.args.net.now c.requires.0 c.args.members.now c.requires.1 l.net l.place-index l.invariant (omega arith) c.place_end-end.ensures
 
-pub loop-i-preserved : goal.loop-i-preserved
-loop-i-preserved c =
-    let l = c.loop-i in
-    (omega arith, one_more c.args.net.now c.args.set.now c.args.count c.requires l.net l.i l.invariant.1 (omega arith) c.place_line-line.ensures c.place_side-side.ensures c.add_breaker.ensures)
+pub loop-place-preserved : goal.loop-place-preserved
+loop-place-preserved c =
+    let l = c.loop-place in
+    one_more c.args.net.now c.requires.0 c.args.members.now c.requires.1 l.net l.place-index l.invariant (omega arith) c.place_end-end.ensures c.add_breaker.ensures
 
 pub returns : goal.returns
 returns c =
-    let l = c.loop-i in
-    subst (λ n. l.net ≡ with_breakers c.args.net.now (take n c.args.set.now)) {x = l.i} {y = c.args.count} (omega arith) l.invariant.1
+    let l = c.loop-place in
+    l.invariant ∙ ap (with_breakers c.args.net.now) (take_all l.place-index c.args.members.now (omega arith))

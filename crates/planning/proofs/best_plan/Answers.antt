@@ -1,15 +1,19 @@
+use Rattle.std.proofs.Common.{sym, ap, ◌∙◌, subst, ℕ, List}
+use mathlib.Core.List.{Sublistᴰ}
+use Rattle.model.specs.Sets.{place_numbers, set_total}
 use Rattle.planning.proofs.Planning.{best-places, plan-is}
 use Rattle.planning.proofs.best_plan.Goals as goal
 
 pub total_with-total-requires : goal.total_with-total-requires
 total_with-total-requires c =
-    let f = c.best_set-found in
-    record {
-      loaded = (c.requires.loaded, c.requires.customers);
-      set_len = (f.ensures.1, f.ensures.2, best-places c.args.loaded.now.network c.requires.loaded.accepted f.result f.new.best f.ensures.0);
-    }
+    let N = c.args.loaded.now.network in
+    let f = c.best_set in
+    let places = best-places N c.requires.loaded.accepted f.new.course.progress f.ensures.found in
+    record { loaded = (c.requires.loaded, c.requires.customers); places = subst (λ (S : List ℕ). Sublistᴰ S (place_numbers N)) (sym c.as_slice.ensures.value) places }
 
 pub returns : goal.returns
 returns c =
-    let f = c.best_set-found in
-    record { found = plan-is c.args.loaded.now.network c.requires.loaded.accepted f.result f.new.best f.ensures.0 c.total_with-total.ensures; few = f.ensures.2; long = f.ensures.1 }
+    let N = c.args.loaded.now.network in
+    let f = c.best_set in
+    let total = c.total_with-total.ensures ∙ ap (λ (S : List ℕ). set_total N S) c.as_slice.ensures.value in
+    record { found = plan-is N c.requires.loaded.accepted f.new.course.progress f.ensures.found total; few = f.ensures.few }

@@ -1,16 +1,13 @@
-use Rattle.std.proofs.Common.{refl}
+use Rattle.std.proofs.Common.{sym, ◌∙◌, subst}
+use Rattle.model.specs.Sets.{place_numbers}
+use Rattle.theory.specs.Sizes.{read-sized}
+use Rattle.bounds.specs.Table.{Small}
+use Rattle.planning.proofs.Searching.{savings-small}
 use Rattle.planning.proofs.best_set.Goals as goal
 
-pub walk-requires : goal.walk-requires
-walk-requires c =
-    let p = c.prepare.ensures in
-    record {
-      tables = record { accepted = c.requires.loaded.accepted; related = p.related; coded = p.coded; behind = c.requires.customers };
-      related = p.listed;
-      table = c.network_bounds.ensures;
-      holds = p.start.0;
-      outlook_long = p.start.1;
-      rows_long = c.rows_space-rows.ensures;
-      set_long = refl;
-      best_long = refl;
-    }
+pub fill-requires : goal.fill-requires
+fill-requires c =
+    let N = c.args.loaded.now.network in
+    let d = c.requires.loaded.accepted.read in
+    let all = c.as_slice.ensures.value ∙ c.savings-savings.ensures in
+    (c.as_slice.ensures.fits, subst Small (sym all) (savings-small N (read-sized N d) (place_numbers N)))

@@ -12,7 +12,7 @@ returns-in_err-load c =
 pub write_plan-requires : goal.write_plan-requires
 write_plan-requires c =
     let w = c.search_network-plan.ensures in
-    (record { accepted = c.in_ok-load.ensures.loaded.accepted; few = w.few; long = w.long; found = w.found }, c.requires)
+    (record { accepted = c.in_ok-load.ensures.loaded.accepted; few = w.few; found = w.found }, c.requires)
 
 pub returns : goal.returns
 unfolding commanded

@@ -1,4 +1,5 @@
-use mathlib.Core.Path.{sym, ◌∙◌}
+use mathlib.Core.Path.{sym, ap, ◌∙◌}
+use Rattle.model.specs.Paths.{station_at}
 use native.Mathlib.Omega.{arith}
 use Rattle.radial.specs.Run.{running-start, running-skip, running-return, running-join, running-end}
 use Rattle.radial.proofs.label_paths.Goals as goal
@@ -12,13 +13,13 @@ pub returns-then-joined-clause-returns : goal.returns-then-joined-clause-returns
 returns-then-joined-clause-returns c =
     let h = c.loop-line in
     let q = sym c.both_closed.ensures ∙ c.if-both_closed.true in
-    running-return c.requires.read c.requires.open h.invariant.1 (omega arith) q c.station_of.ensures.value c.station_of-then-both_closed.ensures.value c.if-joined.true
+    running-return c.requires.read c.requires.open h.invariant.1 (omega arith) q c.station_of.ensures.value (c.station_of-then-both_closed.ensures.value ∙ ap (station_at c.args.net.now) c.other-two.ensures) c.if-joined.true
 
 pub loop-line-preserved : goal.loop-line-preserved
 loop-line-preserved c =
     let h = c.loop-line in
     elim c.if-both_closed.branch [
-      | then-both_closed+else-joined w ↦ rw w.labels-is (h.invariant.0, running-join c.requires.read c.requires.open h.invariant.1 (omega arith) (sym c.both_closed.ensures ∙ w.if-both_closed.true) w.station_of.ensures.value w.station_of-then-both_closed.ensures.value w.if-joined.false w.rename.ensures.labels_len w.rename.ensures.by_index)
+      | then-both_closed+else-joined w ↦ rw w.labels-is (h.invariant.0, running-join c.requires.read c.requires.open h.invariant.1 (omega arith) (sym c.both_closed.ensures ∙ w.if-both_closed.true) w.station_of.ensures.value (w.station_of-then-both_closed.ensures.value ∙ ap (station_at c.args.net.now) w.other-two.ensures) w.if-joined.false w.rename.ensures.labels_len w.rename.ensures.by_index)
       | else-both_closed w ↦ rw w.labels-is (h.invariant.0, running-skip c.requires.read c.requires.open h.invariant.1 (omega arith) (sym c.both_closed.ensures ∙ w.if-both_closed.false))
     ]
 

@@ -6,7 +6,7 @@ use Rattle.model.specs.Ranges.{row_p}
 use Rattle.model.specs.Network.{kind_p, value, place_of, well_placed}
 use Rattle.ranges.specs.Kinds.{kind_of}
 use Rattle.network.specs.Changed.{with_places, with_one_more}
-use Rattle.network.specs.View.{side_number, place_of_held}
+use Rattle.network.specs.View.{place_of_held}
 use Rattle.records.proofs.Next.{no-records}
 use Rattle.reader.specs.Reading.{says_of, last_place}
 use Rattle.reader.proofs.Ranged.{place-bounds}
@@ -57,8 +57,7 @@ well_placed-requires c =
     let p : place_of_held c.place_of-place.result ≡ place_of vs = c.place_of-place.ensures ∙ ap place_of c.deref.ensures.0 in
     let b = place-bounds h.stations h.lines vs row.ensures.width row.ensures.ranges in
     let line : c.place_of-place.result.line ≡ value vs 0 = ap (λ q. q.line) p in
-    let side : side_number c.place_of-place.result.side ≡ value vs 1 = ap (λ q. q.side) p in
-    record { line = record { low = omega (arith, line, b.0); high = omega (arith, line, b.1, l.invariant.lines) }; first = omega (arith, side, b.2); second = omega (arith, side, b.3) }
+    record { low = omega (arith, line, b.0); high = omega (arith, line, b.1, l.invariant.lines) }
 
 pub returns-then-not-well_placed : goal.returns-then-not-well_placed
 unfolding kind_of

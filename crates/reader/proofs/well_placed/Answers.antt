@@ -1,6 +1,5 @@
-use Rattle.std.proofs.Common.{ap, sym, arith, eqb, ◌∙◌}
-use Rattle.model.specs.Lists.{numbered}
-use Rattle.model.specs.Network.{no_line, state_at, comes_after}
+use Rattle.std.proofs.Common.{ap, sym, arith, ◌∙◌}
+use Rattle.model.specs.Network.{comes_after}
 use Rattle.model.specs.Paths.{state}
 use Rattle.network.specs.View.{place_of_held}
 use Rattle.reader.specs.Reading.{last_place}
@@ -16,7 +15,7 @@ returns-then-comes_last c =
       | then-room w ↦
           by_state a.net.now.lines _ _ (place_of_held a.place.now) (omega arith)
           (sym (ap (λ ps. comes_after (last_place ps) (place_of_held a.place.now)) w.places.ensures) ∙ sym w.comes_last.ensures ∙ sym w.value-is ∙ c.if-comes_last.true)
-          _ (c.is_plain.ensures ∙ ap (λ s. eqb (state_at (numbered no_line a.net.now.lines a.place.now.line) s) 0) c.number.ensures)
+          _ c.is_plain.ensures
       | else-room w ↦ cc
     ]
 

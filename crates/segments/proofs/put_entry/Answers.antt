@@ -8,4 +8,4 @@ pub returns : goal.returns
 returns c =
     let g = c.args in
     five g.table.now _ _ _ _ _ c.requires.0
-    ∙ (λ i. g.line ∷ g.side ∷ c.number.ensures i ∷ c.number-2.ensures i ∷ (c.number-3.ensures ∙ c.times.ensures) i ∷ drop 5 g.table.now)
+    ∙ (λ i. g.line ∷ g.side ∷ g.weight.0 ∷ g.customers.0 ∷ (c.into.ensures ∙ c.mul.ensures) i ∷ drop 5 g.table.now)

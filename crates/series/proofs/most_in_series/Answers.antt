@@ -1,4 +1,3 @@
-use Prim.Native.Nat.{◌-◌}
 use native.Mathlib.Omega.{arith}
 use Rattle.model.specs.Rules.{breakers_on}
 use Rattle.paths.specs.Meets.{far_route}
@@ -21,8 +20,8 @@ loop-line-preserved c =
       omega arith,
       omega arith,
       omega arith,
-      omega (arith, c.larger-most.ensures, n, h.invariant.3, far_within N c.requires.0 c.requires.1 h.line h.invariant.1 (omega arith)),
-      upto-more (λ l. breakers_on N (far_route N l)) h.line h.most c.larger-most.result h.invariant.4 (omega (arith, c.larger-most.ensures)) (omega (arith, c.larger-most.ensures, n)),
+      omega (arith, c.max-most.ensures, n, h.invariant.3, far_within N c.requires.0 c.requires.1 h.line h.invariant.1 (omega arith)),
+      upto-more (λ l. breakers_on N (far_route N l)) h.line h.most c.max-most.result h.invariant.4 (omega (arith, c.max-most.ensures)) (omega (arith, c.max-most.ensures, n)),
     )
 
 pub returns : goal.returns

@@ -1,52 +1,60 @@
-use Prim.Native.Nat.{◌-◌}
-use mathlib.Core.Path.{refl}
+use mathlib.Core.Path.{refl, sym, ap, ◌∙◌, subst}
+use Prim.Native.Nat.{◌+◌, ◌≤◌}
 use native.Mathlib.Omega.{arith}
-use lib.ListN.{get_or, length-set}
-use Rattle.starts.proofs.Raising.{raised-none, raised-more, raised_all, first-few}
+use Rattle.std.specs.Prelude.{IfSome}
+use Rattle.sets.specs.Stops.{first_place}
+use Rattle.sets.specs.Sets.{route}
+use Rattle.sets.specs.Apart.{place_ends}
+use Rattle.marks.specs.Held.{place_on}
+use Rattle.network.specs.There.{LineThere}
+use Rattle.starts.specs.Own.{far_place, raised}
+use Rattle.starts.proofs.OnEnds.{on-most}
+use Rattle.starts.proofs.FarStations.{far-few}
+use Rattle.starts.proofs.Raising.{Raised, few-some, raised-none, raised-more, raised_all}
 use Rattle.starts.proofs.own_in_series.Goals as goal
 
 pub loop-line-init : goal.loop-line-init
-loop-line-init c = (omega arith, omega arith, omega arith, refl, raised-none _ _ 65)
+loop-line-init c = (omega arith, omega arith, omega arith, refl, raised-none c.args.routes.now.net.now _ 65)
 
-pub offset_bounds-in_series-first : goal.offset_bounds-in_series-first
-offset_bounds-in_series-first c =
-    omega (arith, first-few c.args.net.now c.requires.0 c.args.firsts.now c.requires.3 c.loop-line.line (omega arith) (omega arith))
+pub raise-requires : goal.raise-requires
+raise-requires c =
+    let N = c.args.routes.now.net.now in
+    let h = c.requires.0 in
+    let l = c.loop-line.line in
+    let u : LineThere N l = record { low = omega arith; high = omega arith } in
+    subst (λ o. IfSome o (λ p. p ≤ 64)) (sym (c.first.ensures ∙ h.firsts l u))
+    (few-some (place_on N (first_place (place_ends N) (route N l))) (omega (arith, on-most N (first_place (place_ends N) (route N l)), h.accepted.read.place_count)))
 
-pub bounds-in_series-first : goal.bounds-in_series-first
-bounds-in_series-first c =
-    omega (arith, first-few c.args.net.now c.requires.0 c.args.firsts.now c.requires.3 c.loop-line.line (omega arith) (omega arith))
-
-pub offset_bounds-in_series-first-in-loop-line : goal.offset_bounds-in_series-first-in-loop-line
-offset_bounds-in_series-first-in-loop-line c =
-    omega (arith, first-few c.args.net.now c.requires.0 c.args.firsts.now c.requires.3 c.loop-line.line (omega arith) (omega arith))
-
-pub bounds-in_series-first-in-loop-line : goal.bounds-in_series-first-in-loop-line
-bounds-in_series-first-in-loop-line c =
-    omega (arith, first-few c.args.net.now c.requires.0 c.args.firsts.now c.requires.3 c.loop-line.line (omega arith) (omega arith))
-
-pub far_place-beyond-requires : goal.far_place-beyond-requires
-far_place-beyond-requires c = (c.requires.0, c.requires.1, c.requires.2, c.requires.3, record { low = omega arith; high = omega arith })
-
-pub count_beyond-count-requires : goal.count_beyond-count-requires
-count_beyond-count-requires c = (c.requires.0.read, c.requires.0.rules, c.requires.1, c.requires.4, record { low = omega arith; high = omega arith })
+pub raise-requires-in-loop-line : goal.raise-requires-in-loop-line
+raise-requires-in-loop-line c =
+    let N = c.args.routes.now.net.now in
+    subst (λ o. IfSome o (λ p. p ≤ 64)) (sym c.far_place-beyond.ensures) (few-some (far_place N c.loop-line.line) (far-few N c.requires.0.accepted c.loop-line.line))
 
 pub loop-line-preserved : goal.loop-line-preserved
 loop-line-preserved c =
-    let g = c.args in
-    let h = c.loop-line in
-    let N = g.net.now in
-    let few = first-few N c.requires.0 g.firsts.now c.requires.3 h.line (omega arith) (omega arith) in
-    let far = c.far_place-beyond.ensures in (
-      h.invariant.0,
+    let N = c.args.routes.now.net.now in
+    let h = c.requires.0 in
+    let l = c.loop-line.line in
+    let i = c.loop-line.invariant in
+    let u : LineThere N l = record { low = omega arith; high = omega arith } in
+    let first = place_on N (first_place (place_ends N) (route N l)) in
+    let next = c.raise.new.numbers in
+    let end = c.line_count-line-end.result + 1 in (
+      i.0,
       omega arith,
       omega arith,
-      simp length-set h.invariant.3,
-      raised-more N _ h.in_series h.line (get_or g.firsts.now (h.line - 1) 0) c.far_place-beyond.result (get_or g.counts.now (h.line - 1) 0) c.count_beyond-count.result c.larger.result c.larger-in-loop-line.result
-          (omega arith) (omega arith) (omega arith) (c.requires.3 h.line (omega arith) (omega arith)) (c.requires.4 h.line (omega arith) (omega arith)) far.0 c.count_beyond-count.ensures
-          c.larger.ensures c.larger-in-loop-line.ensures h.invariant.4,
+      c.raise-in-loop-line.ensures.long,
+      subst (λ xs. Raised N end xs (l + 1)) (sym (c.raise-in-loop-line.ensures.raised ∙ ap (λ o. raised next o c.count_beyond-count.result) c.far_place-beyond.ensures))
+          (raised-more N end c.loop-line.in_series next l first (far_place N l) c.count.result c.count_beyond-count.result
+          (omega arith)
+          (omega (arith, i.3, on-most N (first_place (place_ends N) (route N l)), h.accepted.read.place_count))
+          (omega (arith, c.raise.ensures.long, far-few N h.accepted l))
+          refl (c.count.ensures ∙ c.requires.1.counts l u) refl c.count_beyond-count.ensures
+          (c.raise.ensures.raised ∙ ap (λ o. raised c.loop-line.in_series o c.count.result) (c.first.ensures ∙ h.firsts l u))
+          i.4),
     )
 
 pub returns : goal.returns
 returns c =
     let h = c.loop-line in
-    raised_all c.args.net.now c.requires.0 _ h.invariant.0 h.in_series h.line (omega arith) h.invariant.4
+    raised_all c.args.routes.now.net.now c.requires.0.accepted _ h.invariant.0 h.in_series h.line (omega arith) h.invariant.4

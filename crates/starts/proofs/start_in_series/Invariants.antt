@@ -11,7 +11,7 @@ use Rattle.starts.proofs.start_in_series.Given as goal
 abbrev pub invariant-loop-s : goal.invariant-loop-s
 invariant-loop-s l =
     (l.s-end ≡ length l.net.places + 1) × (1 ≤ l.s) × (l.s ≤ l.s-end)
-    × (max l.in_series (most_from (behind_in l.relations l.p) (λ k. get_or l.own k 0) l.s l.s-end) ≡ in_series_at l.net [] (end_at l.net l.p))
+    × (max l.in_series (most_from (behind_in l.relations l.place) (λ k. get_or l.own k 0) l.s l.s-end) ≡ in_series_at l.net [] (end_at l.net l.place))
 
 abbrev pub decreases-loop-s : goal.decreases-loop-s
 decreases-loop-s l = l.s-end - l.s

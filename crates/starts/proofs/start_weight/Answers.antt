@@ -1,9 +1,9 @@
-use Prim.Native.Nat.{◌+◌, ◌-◌}
+use Prim.Native.Nat.{◌+◌}
 use mathlib.Core.Path.{◌≡◌, ap}
 use native.Mathlib.Omega.{arith}
 use lib.ListN.{length, get_or}
 use Rattle.savings.specs.Breakers.{end_at}
-use Rattle.starts.specs.Own.{under_in}
+use Rattle.starts.specs.Own.{counts_for}
 use Rattle.starts.proofs.UnderPlaces.{counted, not-counted}
 use Rattle.starts.proofs.Weighing.{share, weighed-more, weighed-all, weight-few}
 use Rattle.theory.specs.Gathering.{sum_from, sum_first, sum-none}
@@ -14,8 +14,8 @@ pub loop-s-init : goal.loop-s-init
 loop-s-init c =
     let g = c.args in
     let N = g.net.now in
-    let add = share g.relations.now g.own.now g.upstreams.now g.p in
-    let all = weighed-all N c.requires.0 g.relations.now g.own.now g.upstreams.now c.requires.1 c.requires.2 c.requires.3 g.p c.requires.5.low c.requires.5.high in
+    let add = share g.net.now g.own.now g.place in
+    let all = weighed-all N c.requires.places.0 g.own.now c.requires.own.1 g.place c.requires.places.2.low c.requires.places.2.high in
     (omega arith, omega arith, omega arith, omega (arith, all, ap (sum_from add 1) {x = c.place_count-s-end.result + 1} {y = length N.places + 1} (omega arith)))
 
 pub overflow_add-weight : goal.overflow_add-weight
@@ -23,21 +23,21 @@ overflow_add-weight c =
     let g = c.args in
     let h = c.loop-s in
     let N = g.net.now in
-    let t = under_in g.relations.now g.upstreams.now g.p h.s in
+    let t = counts_for g.net.now g.place h.s in
     omega (
       arith,
       counted {a = t} (get_or g.own.now h.s 0) c.under.ensures c.if-under.true,
-      sum_first (share g.relations.now g.own.now g.upstreams.now g.p) h.s (c.place_count-s-end.result + 1) (omega arith),
-      weight-few N c.requires.0 (end_at N g.p),
+      sum_first (share g.net.now g.own.now g.place) h.s (c.place_count-s-end.result + 1) (omega arith),
+      weight-few N c.requires.places.0 (end_at N g.place),
     )
 
 pub loop-s-preserved : goal.loop-s-preserved
 loop-s-preserved c =
     let g = c.args in
     let h = c.loop-s in
-    let add = share g.relations.now g.own.now g.upstreams.now g.p in
+    let add = share g.net.now g.own.now g.place in
     let own = get_or g.own.now h.s 0 in
-    let t = under_in g.relations.now g.upstreams.now g.p h.s in
+    let t = counts_for g.net.now g.place h.s in
     let e : c.if-under.weight ≡ h.weight + add h.s = elim c.if-under.branch [
       | then-under w ↦ omega (arith, counted {a = t} own c.under.ensures w.if-under.true)
       | else-under w ↦ omega (arith, not-counted {a = t} own c.under.ensures w.if-under.false)
@@ -47,4 +47,4 @@ loop-s-preserved c =
 pub returns : goal.returns
 returns c =
     let g = c.args in
-    omega (arith, c.loop-s.invariant.3, sum-none (share g.relations.now g.own.now g.upstreams.now g.p) c.loop-s.s (c.place_count-s-end.result + 1) (omega arith))
+    omega (arith, c.loop-s.invariant.3, sum-none (share g.net.now g.own.now g.place) c.loop-s.s (c.place_count-s-end.result + 1) (omega arith))

@@ -11,7 +11,7 @@ use Rattle.starts.proofs.start_weight.Given as goal
 abbrev pub invariant-loop-s : goal.invariant-loop-s
 invariant-loop-s l =
     (l.s-end ≡ length l.net.places + 1) × (1 ≤ l.s) × (l.s ≤ l.s-end)
-    × (l.weight + sum_from (share l.relations l.own l.upstreams l.p) l.s l.s-end ≡ weight_at l.net [] (end_at l.net l.p))
+    × (l.weight + sum_from (share l.net l.own l.place) l.s l.s-end ≡ weight_at l.net [] (end_at l.net l.place))
 
 abbrev pub decreases-loop-s : goal.decreases-loop-s
 decreases-loop-s l = l.s-end - l.s

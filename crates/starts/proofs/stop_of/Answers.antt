@@ -1,25 +1,43 @@
-use Rattle.tree.proofs.Fitting.{read_fits}
-use native.Mathlib.Omega.{arith}
-use Rattle.starts.proofs.Stopping.{place-few, path-without, place-there, line-there, same-trip, other-trip}
+use mathlib.Core.Path.{sym, ap, ◌∙◌, subst}
+use Rattle.model.specs.Paths.{same_end}
+use Rattle.tree.specs.Linked.{LineHeld}
+use Rattle.paths.specs.Held.{trip_in}
+use Rattle.starts.proofs.UnderPlaces.{line_held}
+use Rattle.starts.proofs.FarStations.{own-held}
+use Rattle.starts.proofs.Stopping.{stop-without, place-there, same-trip, other-trip}
 use Rattle.starts.proofs.stop_of.Goals as goal
 
-pub returns-then-place-eq0 : goal.returns-then-place-eq0
-returns-then-place-eq0 c = record { stop = path-without c.args.net.now c.args.trips.now c.args.firsts.now c.requires.0 c.requires.1 c.requires.2 c.args.line c.requires.3 c.if-place-eq0.true; few = omega arith }
+pub returns-in_err-place : goal.returns-in_err-place
+returns-in_err-place c =
+    let r = c.args.routes.now in
+    let (h, n, u) = c.requires in
+    c.from_residual.ensures ∙ stop-without r.net.now h.accepted c.args.paths.now r.firsts.now n h.firsts c.args.line u (sym c.first.ensures ∙ c.in_err-place.was)
 
 pub place_line-requires : goal.place_line-requires
-place_line-requires c = place-there c.args.net.now c.args.trips.now c.args.firsts.now c.requires.0 c.requires.1 c.requires.2 c.args.line c.requires.3 c.if-place-eq0.false
+place_line-requires c =
+    let r = c.args.routes.now in
+    let (h, n, u) = c.requires in
+    place-there r.net.now h.accepted c.args.paths.now r.firsts.now n h.firsts c.args.line u c.in_ok-place.place (sym c.first.ensures ∙ c.in_ok-place.was)
 
-pub overflow_sub-place_line : goal.overflow_sub-place_line
-overflow_sub-place_line c = omega (arith, line-there c.args.net.now c.args.trips.now c.args.firsts.now c.requires.0 c.requires.1 c.requires.2 c.args.line c.requires.3 c.if-place-eq0.false c.place_line.result c.place_line.ensures)
+pub trip_together-requires : goal.trip_together-requires
+trip_together-requires c =
+    let r = c.args.routes.now in
+    let (h, n, u) = c.requires in (
+      own-held r.net.now h.accepted c.args.line r.tree.now h.tree u,
+      subst LineHeld (sym c.place_line.ensures)
+          (line_held r.net.now h.accepted c.in_ok-place.place (place-there r.net.now h.accepted c.args.paths.now r.firsts.now n h.firsts c.args.line u c.in_ok-place.place (sym c.first.ensures ∙ c.in_ok-place.was))),
+    )
 
-pub offset_bounds-trips-place_line : goal.offset_bounds-trips-place_line
-offset_bounds-trips-place_line c = omega (arith, line-there c.args.net.now c.args.trips.now c.args.firsts.now c.requires.0 c.requires.1 c.requires.2 c.args.line c.requires.3 c.if-place-eq0.false c.place_line.result c.place_line.ensures, (read_fits c.args.net.now c.requires.0.read).lines)
+pub returns-else-trip_together : goal.returns-else-trip_together
+returns-else-trip_together c =
+    let r = c.args.routes.now in
+    let (h, n, u) = c.requires in
+    other-trip r.net.now h.accepted c.args.paths.now r.firsts.now n h.firsts c.args.line u c.in_ok-place.place (sym c.first.ensures ∙ c.in_ok-place.was)
+    (sym (c.trip_together.ensures ∙ ap (λ l. same_end (trip_in c.args.paths.now c.args.line) (trip_in c.args.paths.now l)) c.place_line.ensures) ∙ c.if-trip_together.false)
 
-pub bounds-trips-place_line : goal.bounds-trips-place_line
-bounds-trips-place_line c = omega (arith, line-there c.args.net.now c.args.trips.now c.args.firsts.now c.requires.0 c.requires.1 c.requires.2 c.args.line c.requires.3 c.if-place-eq0.false c.place_line.result c.place_line.ensures, (read_fits c.args.net.now c.requires.0.read).lines)
-
-pub returns-then-trips-line : goal.returns-then-trips-line
-returns-then-trips-line c = record { stop = other-trip c.args.net.now c.args.trips.now c.args.firsts.now c.requires.0 c.requires.1 c.requires.2 c.args.line c.requires.3 c.if-place-eq0.false c.place_line.result c.place_line.ensures c.if-trips-line.true; few = omega arith }
-
-pub returns : goal.returns
-returns c = record { stop = same-trip c.args.net.now c.args.trips.now c.args.firsts.now c.requires.0 c.requires.1 c.requires.2 c.args.line c.requires.3 c.if-place-eq0.false c.place_line.result c.place_line.ensures c.if-trips-line.false; few = place-few c.args.net.now c.args.trips.now c.args.firsts.now c.requires.0 c.requires.1 c.requires.2 c.args.line c.requires.3 }
+pub returns-then-trip_together : goal.returns-then-trip_together
+returns-then-trip_together c =
+    let r = c.args.routes.now in
+    let (h, n, u) = c.requires in
+    same-trip r.net.now h.accepted c.args.paths.now r.firsts.now n h.firsts c.args.line u c.in_ok-place.place (sym c.first.ensures ∙ c.in_ok-place.was)
+    (sym (c.trip_together.ensures ∙ ap (λ l. same_end (trip_in c.args.paths.now c.args.line) (trip_in c.args.paths.now l)) c.place_line.ensures) ∙ c.if-trip_together.true)

@@ -1,11 +1,6 @@
-use mathlib.Core.Path.{◌≡◌}
-use Prim.Native.Nat.{◌-◌, ◌≤◌}
-use lib.ListN.{length}
+use Prim.Native.Nat.{◌-◌}
 use Rattle.text.proofs.Lines.{Begun}
 use Rattle.text.proofs.put_line.Given as goal
 
-abbrev pub invariant-loop-i : goal.invariant-loop-i
-invariant-loop-i l = (l.i-end ≡ length l.numbers) × (l.i ≤ l.i-end) × Begun l.letter l.numbers l.initial.buf l.buf l.at l.i
-
-abbrev pub decreases-loop-i : goal.decreases-loop-i
-decreases-loop-i l = l.i-end - l.i
+abbrev pub invariant-loop-number : goal.invariant-loop-number
+invariant-loop-number l = Begun l.letter l.numbers l.initial.buf l.buf l.at l.number-index

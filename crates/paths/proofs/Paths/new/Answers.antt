@@ -1,0 +1,9 @@
+use Prim.Native.Nat.{◌-◌}
+use mathlib.Core.Path.{ap}
+use Rattle.marks.proofs.Marking.{always}
+use Rattle.paths.specs.declared.Met.{Met}
+use Rattle.paths.specs.Meets.{no_met}
+use Rattle.paths.proofs.Paths.new.Goals as goal
+
+pub returns : goal.returns
+returns c = λ l. ap (λ (m : Met). m.count) (always no_met 768 (l - 1))

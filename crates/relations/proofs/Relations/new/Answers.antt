@@ -1,0 +1,7 @@
+use Prim.Native.Nat.{◌+◌, ◌*◌}
+use Rattle.marks.proofs.Marking.{always}
+use Rattle.relations.specs.declared.Relation.TheVariants.{Apart}
+use Rattle.relations.proofs.Relations.new.Goals as goal
+
+pub returns-clause-apart : goal.returns-clause-apart
+returns-clause-apart c = λ q p. always Apart 4225 (q * 65 + p)

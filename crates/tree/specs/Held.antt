@@ -1,0 +1,59 @@
+-- What a tree holds of a network: the closed ends at each station, how each line is fed, and the lines from the HV stations outwards.
+use Rattle.std.specs.Prelude.{ℕ, ◌-◌, ◌≤◌, ◌<◌, ◌≡◌, Option, None, List, length, get_or}
+use Rattle.model.specs.Network.{Network}
+use Rattle.model.specs.Paths.{End}
+use Rattle.network.specs.declared.Side.TheVariants.{One}
+use Rattle.network.specs.View.{side_number}
+use Rattle.network.specs.There.{StationThere, LineThere}
+use Rattle.tree.specs.Linked.{Listed, along, ends_at}
+use Rattle.tree.specs.Outwards.{near_end, feeder, fed_by}
+use Rattle.tree.specs.declared.Lists.{Lists}
+use Rattle.tree.specs.declared.Supply.{Supply}
+use Rattle.tree.specs.declared.Tree.{Tree}
+
+-- a station has a list, and the ends of its list
+pub record HasList (x : Lists) (s : ℕ) : Type 0 where
+  pub low : 1 ≤ s
+  pub high : s ≤ 512
+  pub listed : Listed x.nexts (get_or x.firsts (s - 1) None)
+
+abbrev pub listed_ends : Lists → ℕ → List End
+listed_ends x s = along 1536 x.nexts (get_or x.firsts (s - 1) None)
+
+-- the near end of a line as it is noted
+abbrev pub noted_near : Supply → ℕ → End
+noted_near y l = record { line = l; side = side_number (get_or y.sides (l - 1) One) }
+
+-- what a tree has of a station: that it has a list, and the ends of it
+abbrev pub HasEnds : Tree → ℕ → Type 0
+HasEnds t s = HasList t.lists s
+
+abbrev pub ends_in : Tree → ℕ → List End
+ends_in t s = listed_ends t.lists s
+
+-- what it has of a line: its near end, and the line that feeds it
+abbrev pub near_in : Tree → ℕ → End
+near_in t l = noted_near t.supply l
+
+abbrev pub feeder_in : Tree → ℕ → Option ℕ
+feeder_in t l = get_or t.supply.feeders (l - 1) None
+
+-- its lines, from the HV stations outwards
+abbrev pub lines_in : Tree → List ℕ
+lines_in t = t.supply.order.items
+
+pub record HoldsTree (N : Network) (t : Tree) : Type 0 where
+  pub stations : length N.stations ≤ 512
+  pub lines : length N.lines ≤ 768
+  -- each station's list has the closed ends at it
+  pub has : (s : ℕ) → StationThere N s → HasEnds t s
+  pub ends : (s : ℕ) → StationThere N s → ends_in t s ≡ ends_at N s
+  -- each line's near end, and the line that feeds it
+  pub nears : (l : ℕ) → LineThere N l → near_in t l ≡ near_end N l
+  pub feeds : (l : ℕ) → LineThere N l → feeder_in t l ≡ fed_by N l
+  -- every line stands in the order once, and nothing else
+  pub count : length (lines_in t) ≡ length N.lines
+  pub listed : (l : ℕ) → LineThere N l → (i : ℕ) × (i < length N.lines) × (get_or (lines_in t) i 0 ≡ l)
+  pub inside : (i : ℕ) → i < length N.lines → LineThere N (get_or (lines_in t) i 0)
+  -- the line that feeds a line stands before it
+  pub after : (i : ℕ) → i < length N.lines → 1 ≤ feeder N (get_or (lines_in t) i 0) → (j : ℕ) × (j < i) × (get_or (lines_in t) j 0 ≡ feeder N (get_or (lines_in t) i 0))
