@@ -40,7 +40,8 @@ pub fn outcome_of(plan: &Plan) -> Outcome
     }
 }
 
-// Writes the numbers of places at the start of what is lent.
+// Writes the numbers of places at the start of what is lent. By index: tried with `zip`, where the proof would have to follow each
+// borrowed element.
 fn put_places(places: &[usize], lent: &mut [u64])
     requires { length places.now ≤ length lent.old }
     ensures { lent.new ≡ places.now ++ drop (length places.now) lent.old }
@@ -69,7 +70,7 @@ pub fn long_enough(room: usize, least: usize) -> Result<(), Refusal>
     Ok(())
 }
 
-// A refusal as one number, for programs in other languages.
+// A refusal as one number, for programs in other languages. It asks that the record has less than 17 bits, so it is no `From`.
 pub fn refusal(refusal: Refusal) -> u64
     requires { (refusal_number refusal ≤ 16) × (refusal_record refusal < 65536) }
     ensures { result ≡ refusal_number refusal * 65536 + refusal_record refusal }

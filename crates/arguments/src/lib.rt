@@ -1,4 +1,5 @@
-// The words behind the program's name: what they ask for.
+// The words behind the program's name: what they ask for. The first three are slices, and of the others only their number counts: a
+// list of all would need room for each.
 #![tactic(auto)]
 
 ghost use Rattle.std.specs.Prelude.{◌≡◌, []};
@@ -10,7 +11,7 @@ ghost use Rattle.model.specs.Commands.{word_of, alone, with_file, impact_asked, 
 
 use model::{Command, Misuse, Request, Word};
 
-// What the first word stands for.
+// What the first word stands for. `From<&[u8]> for Word` would be no plainer, and would have to stand in crate `model`, beside the type.
 fn word_of(word: &[u8]) -> Word
     ensures { result ≡ word_of word.now }
 {

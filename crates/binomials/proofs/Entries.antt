@@ -2,51 +2,44 @@
 use mathlib.Core.Path.{◌≡◌, ap, ap₂, subst, ◌∙◌}
 use mathlib.Core.Bool.{Bool, true, and-eq-true_iff}
 use mathlib.Core.List.{List, [], ◌∷◌, map}
-use Prim.Native.Nat.{ℕ, zero, suc, ◌+◌, ◌-◌, ◌*◌, ◌%◌, ◌^◌, ◌≤◌, ◌<◌}
+use Prim.Native.Nat.{ℕ, zero, suc, ◌+◌, ◌-◌, ◌^◌, ◌≤◌, ◌<◌}
 use native.Mathlib.Omega.{arith}
-use lib.Dec.{ltb}
+use lib.Dec.{eqb, ltb}
 use lib.ListN.{length, get_or}
-use borrow.Author.Tests.{eqb-true, ltb-true, eq-eqb, ne_eqb, lt-ltb, le-ltb}
+use borrow.Author.Tests.{eqb-true, ltb-true}
 use Rattle.model.specs.Lists.{sum, numbers}
 use Rattle.model.specs.Ceiling.{binomial, set_count}
-use Rattle.binomials.specs.Pascal.{every, pascal, Binomials}
+use Rattle.binomials.specs.Pascal.{every, entry, pascal, passes_row, Binomials}
 
 -- what every entry passes, entry k passes
-passes-from : (test : ℕ → ℕ → Bool) (xs : List ℕ) (i : ℕ) → every test i xs ≡ true → (k : ℕ) → k < length xs → test (i + k) (get_or xs k 0) ≡ true
-passes-from test [] i e k h = absurd (omega arith)
-passes-from test (x ∷ xs) i e zero h = subst (λ (m : ℕ). test m x ≡ true) (omega arith) ((and-eq-true_iff (test i x) (every test (suc i) xs)).0 e).0
-passes-from test (x ∷ xs) i e (suc k) h =
-    subst (λ (m : ℕ). test m (get_or xs k 0) ≡ true) (omega arith)
-    (passes-from test xs (suc i) ((and-eq-true_iff (test i x) (every test (suc i) xs)).0 e).1 k (omega arith))
+passes-from : {A : Type 0} (test : ℕ → A → Bool) (xs : List A) (other : A) (i : ℕ) → every test i xs ≡ true → (k : ℕ) → k < length xs → test (i + k) (get_or xs k other) ≡ true
+passes-from test [] other i e k h = absurd (omega arith)
+passes-from test (x ∷ xs) other i e zero h = subst (λ (m : ℕ). test m x ≡ true) (omega arith) ((and-eq-true_iff (test i x) (every test (suc i) xs)).0 e).0
+passes-from test (x ∷ xs) other i e (suc k) h =
+    subst (λ (m : ℕ). test m (get_or xs k other) ≡ true) (omega arith)
+    (passes-from test xs other (suc i) ((and-eq-true_iff (test i x) (every test (suc i) xs)).0 e).1 k (omega arith))
 
-passes : (test : ℕ → ℕ → Bool) (xs : List ℕ) → every test 0 xs ≡ true → (k : ℕ) → k < length xs → test k (get_or xs k 0) ≡ true
-passes test xs e k h = subst (λ (m : ℕ). test m (get_or xs k 0) ≡ true) (omega arith) (passes-from test xs 0 e k h)
+passes : {A : Type 0} (test : ℕ → A → Bool) (xs : List A) (other : A) → every test 0 xs ≡ true → (k : ℕ) → k < length xs → test k (get_or xs k other) ≡ true
+passes test xs other e k h = subst (λ (m : ℕ). test m (get_or xs k other) ≡ true) (omega arith) (passes-from test xs other 0 e k h)
 
-module _ (t : List ℕ) (b : Binomials t) where
-  holds : (i : ℕ) → i < 1105 → pascal t i (get_or t i 0) ≡ true
-  holds i h = passes (pascal t) t b.rule i (omega (arith, b.long))
-
-  column-0 : (i : ℕ) → i < 1105 → i % 17 ≡ 0 → get_or t i 0 ≡ 1
-  column-0 i h e = eqb-true _ _ (rw (eq-eqb (i % 17) 0 e, pascal) at (holds i h))
-
-  row-0 : (i : ℕ) → i < 17 → (i % 17 ≡ 0 → ⊥) → get_or t i 0 ≡ 0
-  row-0 i h e = eqb-true _ _ (rw (ne_eqb (i % 17) 0 e, lt-ltb i 17 h, pascal) at (holds i (omega arith)))
-
-  others : (i : ℕ) → i < 1105 → 17 ≤ i → (i % 17 ≡ 0 → ⊥) → get_or t i 0 ≡ get_or t (i - 17) 0 + get_or t (i - 18) 0
-  others i h k e = eqb-true _ _ (rw (ne_eqb (i % 17) 0 e, le-ltb i 17 k, pascal) at (holds i h))
+module _ (t : List (List ℕ)) (b : Binomials t) where
+  -- an entry follows the rule, and is small
+  holds : (n k : ℕ) → n ≤ 64 → k ≤ 16 → (pascal t n k (entry t n k) ≡ true) × (ltb (entry t n k) (2 ^ 49) ≡ true)
+  holds n k hn hk =
+      let row = (and-eq-true_iff (eqb (length (get_or t n [])) 17) _).0 (passes (passes_row t) t [] b.rows n (omega (arith, b.long))) in
+      (and-eq-true_iff (pascal t n k (entry t n k)) _).0 (passes _ (get_or t n []) 0 row.1 k (omega (arith, eqb-true _ _ row.0)))
 
   -- Pascal's rule
-  pub entry-is : (n k : ℕ) → n ≤ 64 → k ≤ 16 → get_or t (n * 17 + k) 0 ≡ binomial n k
+  pub entry-is : (n k : ℕ) → n ≤ 64 → k ≤ 16 → entry t n k ≡ binomial n k
   unfolding binomial
-  entry-is n zero hn hk = column-0 (n * 17 + zero) (omega arith) (omega arith)
-  entry-is zero (suc k) hn hk = row-0 (zero * 17 + suc k) (omega arith) (omega arith)
+  entry-is n zero hn hk = eqb-true _ _ (holds n zero hn hk).0
+  entry-is zero (suc k) hn hk = eqb-true _ _ (holds zero (suc k) hn hk).0
   entry-is (suc n) (suc k) hn hk =
-      others (suc n * 17 + suc k) (omega arith) (omega arith) (omega arith)
-      ∙ ap₂ (λ (i j : ℕ). get_or t i 0 + get_or t j 0) {x = suc n * 17 + suc k - 17} {y = n * 17 + suc k} {u = suc n * 17 + suc k - 18} {v = n * 17 + k} (omega arith) (omega arith)
+      eqb-true _ _ (holds (suc n) (suc k) hn hk).0
       ∙ ap₂ (λ (x y : ℕ). x + y) (entry-is n (suc k) (omega arith) hk) (entry-is n k (omega arith) (omega arith))
 
-  pub entry-small : (n k : ℕ) → n ≤ 64 → k ≤ 16 → get_or t (n * 17 + k) 0 < 2 ^ 49
-  entry-small n k hn hk = ltb-true _ _ (passes (λ i x. ltb x (2 ^ 49)) t b.small (n * 17 + k) (omega (arith, b.long)))
+  pub entry-small : (n k : ℕ) → n ≤ 64 → k ≤ 16 → entry t n k < 2 ^ 49
+  entry-small n k hn hk = ltb-true _ _ (holds n k hn hk).1
 
 -- the sum of a row from one column up to another, and the same less its first column
 unfoldable pub columns : ℕ → ℕ → ℕ → ℕ

@@ -11,16 +11,17 @@ use model::Refusal;
 
 mod table;
 
-// The binomial coefficient of a row, 0 to 64, and a column, 0 to 16.
-fn binomial_at(table: &[u64; 1105], row: usize, column: usize) -> u64
+// The binomial coefficient of a row, 0 to 64, and a column, 0 to 16. The table is lent, as an array: so its test is computed once,
+// where `ceiling` names the constant, and a type around it would only repeat what the clause says.
+fn binomial_at(table: &[[u64; 17]; 65], row: usize, column: usize) -> u64
     requires { Binomials table.now × (row ≤ 64) × (column ≤ 16) }
     ensures { (result ≡ binomial row column) × (result < 2 ^ 49) }
 {
-    table[row * 17 + column]
+    table[row][column]
 }
 
 // How many sets of at most `additions` of `places` places there are.
-fn set_count(table: &[u64; 1105], places: usize, additions: usize) -> u64
+fn set_count(table: &[[u64; 17]; 65], places: usize, additions: usize) -> u64
     requires { Binomials table.now × (places ≤ 64) × (additions ≤ 16) }
     ensures { result ≡ set_count places additions }
 {

@@ -2,7 +2,7 @@
 use Prim.Native.Nat.{ℕ, zero, suc, ◌+◌, ◌-◌, ◌≤◌, ◌<◌}
 use mathlib.Core.Path.{◌≡◌, refl, sym, ap, ◌∙◌, subst}
 use mathlib.Core.Bool.{Bool, true, false}
-use mathlib.Core.List.{List, [], ◌∷◌}
+use mathlib.Core.List.{List, [], ◌∷◌, ◌++◌}
 use mathlib.Core.Logic.{⊎_elim}
 use native.Mathlib.Decide.{ℕ_discrete}
 use native.Mathlib.Nat.{eq-or-lt_of_le}
@@ -10,7 +10,7 @@ use native.Mathlib.Numerals.{add-one}
 use native.Mathlib.Omega.{arith}
 use lib.Dec.{leb}
 use lib.ListN.{replicate, length, get_or, set, take, drop, drop_of_length-le, get_or-eq_default}
-use Rattle.std.proofs.lemmas.List.{length-drop}
+use Rattle.std.proofs.lemmas.List.{length-drop, length_push, same_from_push, take_more}
 use lib.Seq.{get_or-set_same, get_or-set_other, drop-cons}
 use Rattle.model.specs.Lists.{sum}
 use Rattle.model.specs.Walk.{insert, falling, largest}
@@ -110,6 +110,26 @@ columns-more xs ys q old new h e c b r p k l m =
     (λ o. c.others r p k (omega arith) (λ z. omega arith) ∙ b r p k o m)
     (eq-or-lt_of_le {n = q} {m = p} l)
 
+-- a list is how another begins
+pub record Begins (left xs : List ℕ) : Type 0 where
+  pub long : length left ≤ length xs
+  pub same : left ≡ take (length left) xs
+
+pub begins-all : (xs : List ℕ) → Begins xs xs
+begins-all xs = record { long = omega arith; same = sym (go xs) }
+  where
+    go : (ys : List ℕ) → take (length ys) ys ≡ ys
+    go [] = refl
+    go (y ∷ ys) = ap (λ zs. y ∷ zs) (go ys)
+
+-- less its last number, which is there in the other
+pub begins-less : (xs rest : List ℕ) (x : ℕ) {left : List ℕ} → Begins left xs → left ≡ rest ++ x ∷ [] → (length left ≡ length rest + 1) × (length rest < length xs) × Begins rest xs × (x ≡ get_or xs (length rest) 0)
+begins-less xs rest x {left = left} b e =
+    let n : length left ≡ length rest + 1 = ap length e ∙ length_push rest x in
+    let within : length rest < length xs = omega (arith, b.long) in
+    let both = same_from_push rest (take (length rest) xs) x (get_or xs (length rest) 0) (sym e ∙ b.same ∙ ap (λ k. take k xs) n ∙ take_more xs (length rest) 0 within) in
+    (n, within, record { long = omega arith; same = both.0 }, both.1)
+
 -- the columns from q on are written, and the savings behind the first q stand in falling order
 pub record Built (savings : List ℕ) (q : ℕ) (sums : List (List ℕ)) (list : List ℕ) : Type 0 where
   pub ordered : list ≡ falling (drop q savings)
@@ -137,11 +157,12 @@ module _ (savings : List ℕ) where
       ∙ ap falling (sym (drop-cons savings p 0 l))
 
   module _ (few : length savings ≤ 64) where
-    pub built-none : (q : ℕ) (old new : List (List ℕ)) → q ≡ length savings → Column [] q old new → Built savings q new []
+    pub built-none : (old new : List (List ℕ)) → Column [] (length savings) old new → Built savings (length savings) new []
     unfolding falling
-    built-none q old new e c =
-        let o : [] ≡ falling (drop q savings) = ap falling (sym (drop_of_length-le savings {i = q} (omega (arith, e)))) in
-        record { ordered = o; columns = columns-more savings [] q old new few o c (λ r p a b m. absurd (omega (arith, e))) }
+    built-none old new c =
+        let q = length savings in
+        let o : [] ≡ falling (drop q savings) = ap falling (sym (drop_of_length-le savings {i = q} (omega arith))) in
+        record { ordered = o; columns = columns-more savings [] q old new few o c (λ r p a b m. absurd (omega arith)) }
 
     pub built-more : (q : ℕ) (old : List (List ℕ)) (list : List ℕ) → Built savings q old list → (p : ℕ) (new : List (List ℕ)) (more : List ℕ)
         → p < length savings → q ≡ p + 1 → more ≡ insert (get_or savings p 0) list → Column more p old new → Built savings p new more

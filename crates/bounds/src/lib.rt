@@ -11,6 +11,7 @@ use arrayvec::ArrayVec;
 // savings of the places behind those.
 #[derive(Drop)]
 pub struct Bounds {
+    // for 0 to 16 and 0 to 64 places: fixed memory, without a heap
     sums: [[u64; 65]; 17],
     ghost table: { IsTable sums },
 }
@@ -47,6 +48,7 @@ impl Bounds {
         ensures { Column list.now passed self.old.sums self.new.sums }
     {
         let mut sum = 0;
+        // by number, since sums are written for more places than the list may have
         for left in 0..17 {
             self.sums[left][passed] = sum;
             if left < list.len() {
@@ -62,8 +64,8 @@ impl Bounds {
     {
         let mut list = ArrayVec::new();
         self.write_sums(savings.len(), &list);
-        for passed in (0..savings.len()).rev() {
-            insert_falling(&mut list, savings[passed]);
+        for (passed, &saving) in savings.iter().enumerate().rev() {
+            insert_falling(&mut list, saving);
             self.write_sums(passed, &list);
         }
     }

@@ -19,7 +19,7 @@ struct Reach {
     feeder: Option<usize>,
 }
 
-// How each station is reached from the HV stations of a network, if it is.
+// How each station is reached from the HV stations of a network, if it is. There are at most 512: fixed memory, without a heap.
 #[derive(Clone, Copy)]
 struct Reaches<'a> {
     network: &'a Network,
@@ -44,6 +44,7 @@ impl<'a> Reaches<'a> {
     // How the stations of a network are reached.
     fn of(network: &'a Network) -> Self {
         let mut reaches = Reaches::start(network);
+        // a round for each line that a network can have is enough
         for _ in 0..768 {
             if !reaches.spread() {
                 break;
@@ -137,6 +138,7 @@ impl<'a> Reaches<'a> {
     fn path(&self, last: usize, breakers: u64) -> Option<Path> {
         let mut lines = LineSet::empty();
         let mut number = last;
+        // no path is longer
         for _ in 0..768 {
             let line = lookups::line(self.network, number)?;
             if breakers_on(&line) != 0 {

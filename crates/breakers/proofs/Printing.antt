@@ -11,6 +11,7 @@ use Rattle.model.specs.Rules.{accepted}
 use Rattle.model.specs.Calls.{written, reported, report_answered, report_leaves, text_or_x, printed}
 use Rattle.text.specs.Over.{Written}
 use Rattle.engine.proofs.Lending.{lent-enough}
+use Rattle.commands.proofs.Answering.{given-not}
 
 -- the text at the start of a list, and no more than the list
 starts : (text rest after : List ℕ) (n : ℕ) → n ≡ length text → after ≡ text ++ rest → (take n after ≡ text) × (n ≤ length after)
@@ -28,9 +29,6 @@ value (refused number place) = number
 record_of : Answer ℕ → ℕ
 record_of (given n) = 0
 record_of (refused number place) = place
-
-given-not : {n number place : ℕ} → given n ≡ refused number place → ⊥
-given-not q = let z : ◌≡◌ {A = ℕ} 0 1 = cc in omega arith
 
 -- the length that is answered is that of the text which the buffer begins with
 written-starts : (buffer : List ℕ) (a : Answer (List ℕ)) (n : ℕ) (after : List ℕ) → given n ≡ measured a → after ≡ written a buffer → (take n after ≡ text_or_x a) × (n ≤ length after)

@@ -17,7 +17,8 @@ use std::{io, str};
 use usage::Complaint;
 use words::{Lent, Name};
 
-// Writes a text, what does not fit into 20,000 bytes left out, by one write.
+// Writes a text, what does not fit into 20,000 bytes left out, by one write. This buffer and those below are
+// fixed memory, so that none can be refused.
 fn write_text(to: &impl Print, text: &impl Display) -> io::Result<()> {
     let mut buffer = [0u8; 20000];
     let mut lent = Lent::new(&mut buffer);
@@ -64,7 +65,8 @@ fn explain(rt: &HostRuntime, command: Command, file: &[u8], refusal: Refusal) {
     let _ = write_text(&rt.stderr(), &explanation);
 }
 
-// Writes what is printed for a file without a command at the start of a buffer: its report, or the line of its refusal.
+// Writes what is printed for a file without a command at the start of a buffer: its report, or the line of its refusal. It stands beside
+// `commands::answer`, since its clause is the specification's own word for the program, `printed`.
 fn put_answer(file: &[u8], out: &mut [u8]) -> Said
     requires { 32768 ≤ length out.old }
     ensures { (take result.bytes out.new ≡ printed file.now) × (result.bytes ≤ length out.new) }
@@ -97,7 +99,7 @@ fn put_command(command: Command, file: &[u8], out: &mut [u8]) -> Said
 
 // Prints what a command answers for a file, and says why if it is a refusal.
 fn print_answer(rt: &HostRuntime, command: Command, file: &[u8]) {
-    let mut out = commands::space();
+    let mut out = [0; commands::ROOM];
     let said = put_command(command, file, &mut out);
     if let Err(e) = rt.write_all(&out[..said.bytes]) {
         fail(rt, &"standard output", e);
@@ -110,7 +112,7 @@ fn print_answer(rt: &HostRuntime, command: Command, file: &[u8]) {
 
 // Reads a file to its end and prints what a command answers for it, or says that it cannot be read.
 fn run<F: Read>(rt: &HostRuntime, command: Command, from: &mut F, name: &impl Display) {
-    let mut file = input::space();
+    let mut file = [0; input::ROOM];
     match input::read(from, &mut file) {
         Err(e) => fail(rt, name, e),
         Ok(n) => print_answer(rt, command, &file[..n]),
@@ -177,21 +179,13 @@ fn print_text(rt: &HostRuntime, text: &str) {
     }
 }
 
-// Room for a word, as long as a path may be.
-fn word_space() -> [u8; 4096]
-    ensures { 4096 ≡ length result }
-{
-    [0; 4096]
-}
-
-// A word behind the program's name at the start of a buffer; answers its length. One that does not fit fills the buffer.
-fn fetch(env: &impl Env, i: usize, buf: &mut [u8]) -> usize
-    ensures { (result ≤ length buf.new) × (result ≡ length (take result buf.new)) }
-{
+// A word behind the program's name, in a buffer, which one that does not fit fills; empty where there is none. A `String` would take
+// memory that may be wanting.
+fn fetch<'a>(env: &impl Env, i: usize, buf: &'a mut [u8]) -> &'a [u8] {
     match env.arg(i, buf) {
-        Ok(n) => n,
-        Err(FillError::TooLong) => buf.len(),
-        Err(FillError::NotPresent) => 0,
+        Ok(n) => &buf[..n],
+        Err(FillError::TooLong) => buf,
+        Err(FillError::NotPresent) => &[],
     }
 }
 
@@ -199,22 +193,21 @@ fn fetch(env: &impl Env, i: usize, buf: &mut [u8]) -> usize
 fn word_count(env: &impl Env, most: usize) -> usize
     ensures { result ≤ most }
 {
-    for i in 0..most {
-        if let Err(FillError::NotPresent) = env.arg(i + 1, &mut []) {
-            return i;
-        }
-    }
-    most
+    (0..most)
+        .find(|i| matches!(env.arg(*i + 1, &mut []), Err(FillError::NotPresent)))
+        .unwrap_or(most)
 }
 
 fn main(rt: HostRuntime) {
-    let mut first = word_space();
-    let a = fetch(&rt, 1, &mut first);
-    let mut second = word_space();
-    let b = fetch(&rt, 2, &mut second);
-    let mut third = word_space();
-    let c = fetch(&rt, 3, &mut third);
-    let words = [&first[..a], &second[..b], &third[..c]];
+    // Each word has room for a path.
+    let mut first = [0; 4096];
+    let mut second = [0; 4096];
+    let mut third = [0; 4096];
+    let words = [
+        fetch(&rt, 1, &mut first),
+        fetch(&rt, 2, &mut second),
+        fetch(&rt, 3, &mut third),
+    ];
     // Four words are too many, whatever follows.
     let count = word_count(&rt, 4);
     match arguments::request(count, words[0], words[1], words[2]) {

@@ -12,12 +12,13 @@ use Rattle.model.specs.Commands.{line_k, line_i, totals_line, line_m, segments_t
 use Rattle.model.specs.declared.Command.{Command}
 use Rattle.model.specs.declared.Refusal.{Refusal}
 use Rattle.model.specs.declared.Totals.{Totals}
+use Rattle.theory.specs.Segments.{table-length}
 use Rattle.engine.proofs.Lending.{lent-enough}
 use Rattle.text.specs.Over.{Written}
 use Rattle.plans.specs.Left.{text_in, Fits, Left}
 use Rattle.plans.proofs.Planning.{written-left}
 use Rattle.segment_rows.specs.Rows.{table_text}
-use Rattle.segment_rows.proofs.Entries.{table-length, table-rows}
+use Rattle.segment_rows.proofs.Entries.{table-rows}
 
 -- a refusal of a call, as its number and record
 abbrev Refused : {A : Type 0} → Refusal → Answer A → Type 0
@@ -66,7 +67,7 @@ module _ (file old new : List ℕ) (n : ℕ) where
   ceiling-left p q s e w = given-left (λ s. line_m p q s) s old new n e w
 
 -- a number that is given is no refusal
-given-not : {n number place : ℕ} → given n ≡ refused number place → ⊥
+pub given-not : {n number place : ℕ} → given n ≡ refused number place → ⊥
 given-not q = let z : ◌≡◌ {A = ℕ} 0 1 = cc in omega arith
 
 value : Answer ℕ → ℕ

@@ -1,4 +1,5 @@
-// The commands of the program: each asks a call and writes its answer as rows of text at the start of a buffer.
+// The commands of the program: each asks a call and writes its answer as rows of text at the start of a buffer, as crate `text` does, and
+// for its reason. The buffer is a slice of at least `ROOM` bytes: an array of that length as its type would ask more of callers.
 #![tactic(auto)]
 
 ghost use Rattle.std.specs.Prelude.{◌≡◌, List, ℕ, ◌≤◌, length, take};
@@ -16,12 +17,8 @@ pub struct Said {
     pub refusal: Option<Refusal>,
 }
 
-// Room for the longest text: a row of one number and 1,536 rows of five.
-pub fn space() -> [u8; 164375]
-    ensures { 164375 ≡ length result }
-{
-    [0; 164375]
-}
+// The room for the longest text: a row of one number and 1,536 rows of five.
+pub const ROOM: usize = 164375;
 
 // check: K for a file that is accepted.
 fn ask_check(file: &[u8], out: &mut [u8]) -> Result<usize, Refusal>
@@ -59,19 +56,12 @@ fn ask_ceiling(places: u64, additions: u64, out: &mut [u8]) -> Result<usize, Ref
     Ok(text::put_line(out, b'M', &[places, additions, sets]))
 }
 
-// Room for a segment table.
-fn table_space() -> [u64; 7680]
-    ensures { 7680 ≡ length result }
-{
-    [0; 7680]
-}
-
-// segments: G and how many entries the segment table has, T and the numbers of each.
+// segments: G and how many entries the segment table has, T and the numbers of each. The table is an array: there is no heap.
 fn ask_segments(file: &[u8], out: &mut [u8]) -> Result<usize, Refusal>
     requires { 164375 ≤ length out.old }
     ensures { Left (commanded Command.Segments file.now) result out.new }
 {
-    let mut table = table_space();
+    let mut table = [0; 7680];
     let entries = engine::segments(file, &mut table)?;
     Ok(segment_rows::put_table(&table, entries, out))
 }

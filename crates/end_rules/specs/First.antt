@@ -6,29 +6,7 @@ use Rattle.std.proofs.Common.{sym, ◌∙◌, true≢false, arith}
 use Rattle.std.proofs.Math.Bool.{true, false}
 use Rattle.std.proofs.Math.Decide.{ℕ_discrete}
 use Rattle.model.specs.Lists.{numbers, first_or}
-
--- the number that was found; 0 stands for none
-abbrev pub found : ℕ → Option ℕ
-found zero = None
-found (suc n) = Some (suc n)
-
-pub found-some : (k x : ℕ) → 1 ≤ k → k ≡ x → Some k ≡ found x
-found-some zero x l e = absurd (omega arith)
-found-some (suc k) x l e = ap found e
-
-pub found-none : (x : ℕ) → 0 ≡ x → None ≡ found x
-found-none x e = ap found e
-
-pub some-found : (x k : ℕ) → found x ≡ Some k → (x ≡ k) × (1 ≤ k)
-some-found zero k e = absurd (none-some k e)
-  where
-    none-some : (k : ℕ) → None ≡ Some k → ⊥
-    none-some k e = let z : ◌≡◌ {A = ℕ} 0 1 = cc in omega arith
-some-found (suc x) k e = let q : suc x ≡ k = cc in (q, omega (arith, q))
-
-pub none-found : (x : ℕ) → found x ≡ None → x ≡ 0
-none-found zero e = refl
-none-found (suc x) e = let z : ◌≡◌ {A = ℕ} 0 1 = cc in absurd (omega arith)
+use Rattle.network.specs.Found.{found, found-some, found-none}
 
 module _ (test : ℕ → Bool) where
   pick : ℕ → Bool → ℕ → ℕ

@@ -6,7 +6,7 @@ ghost use Rattle.model.specs.Lists.{first_or};
 ghost use Rattle.model.specs.Paths.{station_at, line_numbers};
 ghost use Rattle.model.specs.Rules.{both_open, plain_at_hv, unprotected};
 ghost use Rattle.theory.specs.Reading.{Read};
-ghost use Rattle.end_rules.specs.First.{found};
+ghost use Rattle.network.specs.Found.{found};
 ghost use Rattle.network.specs.There.{StationThere, LineThere};
 
 use network::{End, Network, Side};
@@ -24,7 +24,8 @@ fn both_open(net: &Network, line: usize) -> bool
     net.is_open(one) && net.is_open(two)
 }
 
-// Rule 4: the first line with both ends open.
+// Rule 4: the first line with both ends open. This and `plain_at_hv` are one call each: a function of both that takes the test would
+// be no plainer, since it needs a contract for a test.
 pub fn open_line(net: &Network) -> Option<usize>
     requires { Read net.now }
     ensures { result ≡ found (first_or 0 (both_open net.now) (line_numbers net.now)) }

@@ -1,15 +1,13 @@
 -- What a call answers of a file, by whether the file is accepted.
-use Rattle.std.specs.Prelude.{◌≡◌, ℕ, ◌≤◌, ◌<◌, ◌⊎◌, Bool, true, false, ◌&&◌, List, length, leb, Result, Ok, Err}
-use Rattle.std.proofs.Common.{refl, sym, ap, ◌∙◌, inl, inr}
+use Rattle.std.specs.Prelude.{◌≡◌, ℕ, ◌≤◌, ◌<◌, ◌⊎◌, Bool, true, false, ◌&&◌, List, length, leb}
+use Rattle.std.proofs.Common.{sym, ap, ◌∙◌, inl, inr}
+use Rattle.std.proofs.Math.Bool.{and-false}
 use borrow.Author.Tests.{le-leb, lt-leb}
-use Rattle.model.specs.Answer.{Answer, given, refused, ◌>>=◌, says, refuse_number}
+use Rattle.model.specs.Answer.{Answer, given, refused, ◌>>=◌, refuse_number}
 use Rattle.model.specs.Network.{Network}
 use Rattle.model.specs.Outage.{impact, total, figure}
 use Rattle.model.specs.Rules.{accepted}
 use Rattle.model.specs.Calls.{checked, impact_of, impact_answered, totalled}
-use Rattle.model.specs.declared.Refusal.{Refusal}
-use Rattle.loading.specs.declared.Loaded.{Loaded}
-use Rattle.loading.specs.Loading.{network_says}
 
 -- what Impact answers of an accepted network, by whether the number is a line's
 by-test : (N : Network) (l : ℕ) {inside : Bool} → (leb 1 l && leb l (length N.lines)) ≡ inside → impact_of l N ≡ (elim inside as (λ x. Answer ℕ) [ true ↦ given (impact N l) | false ↦ refuse_number ])
@@ -18,10 +16,6 @@ by-test N l e = ap (λ inside. elim inside as (λ x. Answer ℕ) [ true ↦ give
 
 impact-inside : (N : Network) (l : ℕ) → 1 ≤ l → l ≤ length N.lines → impact_of l N ≡ given (impact N l)
 impact-inside N l a b = by-test N l (λ i. le-leb 1 l a i && le-leb l (length N.lines) b i)
-
-and-false : (b : Bool) → (b && false) ≡ false
-and-false true = refl
-and-false false = refl
 
 impact-outside : (N : Network) (l : ℕ) → (l < 1) ⊎ (length N.lines < l) → impact_of l N ≡ refused 2 0
 impact-outside N l (inl h) = by-test N l (λ i. lt-leb 1 l h i && leb l (length N.lines))
@@ -63,8 +57,3 @@ module _ (file : List ℕ) where
   pub total-given : {N : Network} (t g : ℕ) → given N ≡ accepted file → t ≡ total N → g ≡ figure N → given (record { total = t; figure = g }) ≡ totalled file
   unfolding totalled
   total-given t g e p q = (λ i. given (record { total = p i; figure = q i })) ∙ given-on (λ N. given (record { total = total N; figure = figure N })) e
-
-  -- a file is checked by loading it
-  pub checked-is : (r : Result (Unit {0}) Refusal) (l : Loaded) → network_says r l ≡ accepted file → says r ≡ checked file
-  checked-is (Ok u) l e = check-given e
-  checked-is (Err r) l e = check-refused e

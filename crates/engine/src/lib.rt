@@ -7,25 +7,25 @@ ghost use Rattle.model.specs.Calls.{checked, impact_answered, totalled, search_a
 ghost use Rattle.model.specs.Demand.{Demand3};
 ghost use Rattle.model.specs.Text.{report_text};
 ghost use Rattle.model.specs.Segments.{breaker_ends, segment_table, BreakerByBreaker};
-ghost use Rattle.loading.specs.Loading.{IsLoaded};
 
-use loading::Loaded;
+use loading::{Loaded, Room};
 use model::{Outcome, Refusal, Totals};
 
 // Check: whether the file is accepted.
 pub fn check(file: &[u8]) -> Result<(), Refusal>
     ensures { says result ≡ checked file.now }
 {
-    Loaded::new().load(file)
+    Room::new().load(file)?;
+    Ok(())
 }
 
 // Impact: the customers that a fault on a line cuts off.
 pub fn impact(file: &[u8], line: u64) -> Result<u64, Refusal>
     ensures { says result ≡ impact_answered file.now line }
 {
-    let mut loaded = Loaded::new();
-    loaded.load(file)?;
-    if !answers::is_line(&loaded.network, line) {
+    let mut room = Room::new();
+    let loaded = room.load(file)?;
+    if !answers::is_line(loaded.network, line) {
         return Err(Refusal::NoSuchNumber);
     }
     let impacts = loaded.impacts();
@@ -36,11 +36,11 @@ pub fn impact(file: &[u8], line: u64) -> Result<u64, Refusal>
 pub fn total(file: &[u8]) -> Result<Totals, Refusal>
     ensures { says result ≡ totalled file.now }
 {
-    let mut loaded = Loaded::new();
-    loaded.load(file)?;
+    let mut room = Room::new();
+    let loaded = room.load(file)?;
     let impacts = loaded.impacts();
-    let total = u64::from(outage::total_of(&loaded.network, &impacts));
-    let figure = outage::figure_of(&loaded.network, total);
+    let total = u64::from(outage::total_of(loaded.network, &impacts));
+    let figure = outage::figure_of(loaded.network, total);
     Ok(Totals { total, figure })
 }
 
@@ -51,8 +51,8 @@ pub fn search(file: &[u8], members: &mut [u64]) -> Result<Outcome, Refusal>
     ensures demand3 { Demand3 file.now result members.new }
 {
     answers::long_enough(members.len(), answers::MEMBERS)?;
-    let mut loaded = Loaded::new();
-    loaded.load(file)?;
+    let mut room = Room::new();
+    let loaded = room.load(file)?;
     let plan = planning::search_network(&loaded);
     answers::put_members(&plan, members);
     Ok(answers::outcome_of(&plan))
@@ -60,16 +60,16 @@ pub fn search(file: &[u8], members: &mut [u64]) -> Result<Outcome, Refusal>
 
 // Writes the report of an accepted network at the start of a buffer; answers its length.
 fn report_network(loaded: &Loaded, text: &mut [u8]) -> usize
-    requires { IsLoaded loaded.now × (32768 ≤ length text.old) }
-    ensures { (result ≡ length (report_text loaded.now.network))
-        × (text.new ≡ report_text loaded.now.network
-        ++ drop (length (report_text loaded.now.network)) text.old) }
+    requires { 32768 ≤ length text.old }
+    ensures { (result ≡ length (report_text loaded.now.network.now))
+        × (text.new ≡ report_text loaded.now.network.now
+        ++ drop (length (report_text loaded.now.network.now)) text.old) }
 {
     let behind = loaded.customers();
     let impacts = loaded.impacts();
-    let total = outage::total_of(&loaded.network, &impacts);
+    let total = outage::total_of(loaded.network, &impacts);
     let plan = planning::best_plan(loaded, &behind);
-    report::write_report(&loaded.network, &impacts, total, &plan, text)
+    report::write_report(loaded.network, &impacts, total, &plan, text)
 }
 
 // Report: the totals, the impact of a fault on each line and what the search found, as text at the start of `text`.
@@ -78,20 +78,20 @@ pub fn report(file: &[u8], text: &mut [u8]) -> Result<usize, Refusal>
     ensures text_after { text.new ≡ report_leaves file.now text.old }
 {
     answers::long_enough(text.len(), answers::TEXT)?;
-    let mut loaded = Loaded::new();
-    loaded.load(file)?;
+    let mut room = Room::new();
+    let loaded = room.load(file)?;
     Ok(report_network(&loaded, text))
 }
 
 // Writes the segment table of an accepted network at the start of a buffer; answers how many entries it has.
 fn table_network(loaded: &Loaded, table: &mut [u64]) -> usize
-    requires { IsLoaded loaded.now × (7680 ≤ length table.old) }
-    ensures { (result ≡ length (breaker_ends loaded.now.network))
-        × (table.new ≡ segment_table loaded.now.network
-        ++ drop (length (segment_table loaded.now.network)) table.old) }
+    requires { 7680 ≤ length table.old }
+    ensures { (result ≡ length (breaker_ends loaded.now.network.now))
+        × (table.new ≡ segment_table loaded.now.network.now
+        ++ drop (length (segment_table loaded.now.network.now)) table.old) }
 {
     let behind = loaded.customers();
-    segments::write_table(&loaded.network, &loaded.paths, &behind, table)
+    segments::write_table(loaded.network, loaded.paths, &behind, table)
 }
 
 // Segments: the lines grouped by the breaker that trips for them, five numbers a breaker, at the start of `table`.
@@ -101,7 +101,7 @@ pub fn segments(file: &[u8], table: &mut [u64]) -> Result<usize, Refusal>
     ensures breaker_by_breaker { BreakerByBreaker file.now result table.new }
 {
     answers::long_enough(table.len(), answers::TABLE)?;
-    let mut loaded = Loaded::new();
-    loaded.load(file)?;
+    let mut room = Room::new();
+    let loaded = room.load(file)?;
     Ok(table_network(&loaded, table))
 }

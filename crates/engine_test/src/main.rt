@@ -96,7 +96,7 @@ fn show_table(rt: &impl Print, file: &[u8], table: &mut [u64]) -> io::Result<()>
     println!(rt; "{untouched}")
 }
 
-// Search, Report and Segments, each with a buffer of one element too few, of just enough and of more.
+// Search, Report and Segments, each with a buffer of one element too few, of just enough and of more. The calls take lent buffers.
 fn show_lent(rt: &impl Print, file: &[u8]) -> io::Result<()> {
     show_search(rt, file, &mut [99u64; 15])?;
     show_search(rt, file, &mut [99u64; 16])?;
@@ -121,12 +121,8 @@ fn show(rt: &impl Print, file: &[u8]) -> io::Result<()> {
     show_lent(rt, file)
 }
 
-// Room for the input.
-fn space() -> [u8; 200000] {
-    [0; 200000]
-}
-
-// What the calls answer for each file of the input.
+// What the calls answer for each file of the input. A function of all test programs would take a closure and stand
+// in a crate of its own: that is no plainer.
 fn show_files(rt: &impl Print, input: &[u8]) -> io::Result<()> {
     for part in input.split_inclusive(|&byte| byte == b'=') {
         if let [b'\n', file @ .., b'='] | [file @ .., b'='] = part {
@@ -137,7 +133,8 @@ fn show_files(rt: &impl Print, input: &[u8]) -> io::Result<()> {
 }
 
 fn main(rt: HostRuntime) -> io::Result<()> {
-    let mut input = space();
+    // Room for the input, fixed as that of the program.
+    let mut input = [0; 200000];
     let n = input::read(&mut rt.stdin(), &mut input)?;
     show_files(&rt, &input[..n])
 }

@@ -24,7 +24,7 @@ impl fmt::Display for NoLine {
     }
 }
 
-// The record that a refusal names, if it names one.
+// The record that a refusal names, 0 if it names none, as C has it.
 #[derive(Clone, Copy)]
 struct Place(u64);
 

@@ -1,14 +1,13 @@
--- Where a part ends.
-use mathlib.Core.Path.{◌≡◌, refl, ap, ◌∙◌}
+-- Where a separator stands first.
+use mathlib.Core.Path.{◌≡◌, refl, sym, subst}
 use mathlib.Core.Bool.{Bool, true, false, cond, not}
 use mathlib.Core.List.{List, [], ◌∷◌}
-use Prim.Native.Nat.{ℕ, suc, ◌+◌, ◌≤◌}
+use Prim.Native.Nat.{ℕ, suc, ◌+◌, ◌≤◌, ◌<◌}
 use native.Mathlib.Omega.{arith}
 use lib.Dec.{eqb, ltb}
 use lib.ListN.{length}
-use borrow.Author.Tests.{ltb-false}
-use Rattle.std.specs.Prelude.{Option, None, Some}
-use Rattle.std.specs.Option.{unwrap_or}
+use borrow.Author.Tests.{ltb-true, ltb-false}
+use Rattle.std.specs.Prelude.{Option, None, Some, MatchOption}
 use Rattle.std.specs.List.{position_or_len}
 use Rattle.fields.specs.Fields.{up_to}
 
@@ -31,16 +30,15 @@ up_to-short separator (b ∷ bs) = go (eqb b separator) (up_to-short separator b
     go true h = omega arith
     go false h = omega arith
 
--- the position that a search gives, or else the length
-pub found-or-length : (separator : ℕ) (bs : List ℕ) (r : Option ℕ)
+-- where a search finds the separator, if it does
+pub found-first : (separator : ℕ) (bs : List ℕ) (r : Option ℕ)
     → r ≡ cond (ltb (position_or_len (λ b. eqb b separator) bs) (length bs)) (Some (position_or_len (λ b. eqb b separator) bs)) None
-    → unwrap_or r (length bs) ≡ up_to separator bs
-found-or-length separator bs r e =
-    ap (λ (o : Option ℕ). unwrap_or o (length bs)) e
-    ∙ go (ltb (position_or_len (λ b. eqb b separator) bs) (length bs)) refl
-    ∙ up_to-position separator bs
+    → MatchOption r (up_to separator bs ≡ length bs) (λ at. (at ≡ up_to separator bs) × (at < length bs))
+found-first separator bs r e = subst Found (sym e) (go (ltb (position_or_len (λ b. eqb b separator) bs) (length bs)) refl)
   where
-    go : (t : Bool) → ltb (position_or_len (λ b. eqb b separator) bs) (length bs) ≡ t
-        → unwrap_or (cond t (Some (position_or_len (λ b. eqb b separator) bs)) None) (length bs) ≡ position_or_len (λ b. eqb b separator) bs
-    go true q = refl
+    Found : Option ℕ → Type 0
+    Found r = MatchOption r (up_to separator bs ≡ length bs) (λ at. (at ≡ up_to separator bs) × (at < length bs))
+
+    go : (t : Bool) → ltb (position_or_len (λ b. eqb b separator) bs) (length bs) ≡ t → Found (cond t (Some (position_or_len (λ b. eqb b separator) bs)) None)
+    go true q = (up_to-position separator bs, ltb-true _ _ q)
     go false q = omega (arith, ltb-false _ _ q, up_to-position separator bs, up_to-short separator bs)

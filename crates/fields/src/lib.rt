@@ -1,19 +1,16 @@
 // Parts, fields and numbers of a file.
 #![tactic(auto)]
 
-ghost use Rattle.std.specs.Prelude.{◌≡◌, true, false, ◌+◌, ◌≤◌, ◌<◌, length, drop, eqb};
+ghost use Rattle.std.specs.Prelude.{◌≡◌, true, false, ◌≤◌, ◌<◌, length, eqb, MatchOption};
 ghost use Rattle.model.specs.Format.{comma, number_of, after_letter, fields_of};
 ghost use Rattle.fields.specs.Fields.{up_to, form_says};
 
-// Where the part that starts at `from` ends: at the next separator, or at the end of the bytes.
-pub fn part_end(bytes: &[u8], from: usize, separator: u8) -> usize
-    requires { from ≤ length bytes.now }
-    ensures { (result ≡ from + up_to separator (drop from bytes.now))
-        × (from ≤ result) × (result ≤ length bytes.now) }
+// Where a separator stands first, if it does.
+pub fn first_of(bytes: &[u8], separator: u8) -> Option<usize>
+    ensures { MatchOption result (up_to separator bytes.now ≡ length bytes.now)
+        (λ at. (at ≡ up_to separator bytes.now) × (at < length bytes.now)) }
 {
-    let rest = &bytes[from..];
-    let end = rest.iter().position(|byte| *byte == separator);
-    from + end.unwrap_or(rest.len())
+    bytes.iter().position(|byte| *byte == separator)
 }
 
 // Whether a field is empty.
@@ -23,14 +20,14 @@ fn is_empty(digits: usize) -> bool
     digits < 1
 }
 
-// Whether a field has more than ten digits.
+// Whether a field has more than ten digits. It shares `<` alone with `too_long` of crate `reader`: one function would be no plainer.
 fn many_digits(digits: usize) -> bool
     ensures { (result ≡ true → 10 < digits) × (result ≡ false → digits ≤ 10) }
 {
     10 < digits
 }
 
-// The number of a field: one to ten digits, and no leading zero.
+// The number of a field: one to ten digits, and no leading zero. `str::parse` takes a sign and leading zeros too, and only text.
 pub fn read_number(field: &[u8]) -> Option<u64>
     ensures { result ≡ number_of field.now }
 {
@@ -59,7 +56,7 @@ fn is_comma(byte: u8) -> bool
 }
 
 // The numbers of a record of a kind: its letter, then just so many fields with a number each as `row` has room for. None where the
-// record has not this form.
+// record has not this form. The row is lent, since it is the caller's who knows how long rows are: there is no heap to make one in.
 pub fn read_form(bytes: &[u8], letter: u8, row: &mut [u64]) -> Option<()>
     ensures { form_says result row.new ≡ after_letter letter (length row.old) (fields_of bytes.now) }
 {

@@ -70,7 +70,7 @@ impl Announced {
     }
 }
 
-// The number of stations or lines in a field of record 1.
+// The number of stations or lines in a field of record 1; 0 where it has none, so that no record of them is due.
 fn count_in(file: &[u8], field: usize) -> u64
     ensures { result ≤ 768 }
 {

@@ -7,12 +7,8 @@ ghost use Rattle.input.specs.Reading.{within_room};
 use std::io;
 use std::io::Read;
 
-// Room for a file and one byte more, so that a file that is too long is seen to be.
-pub fn space() -> [u8; 32769]
-    ensures { 32769 ≡ length result }
-{
-    [0; 32769]
-}
+// The room for a file: one byte more than it may have, so that a file that is too long is seen to be.
+pub const ROOM: usize = 32769;
 
 // What one read into a buffer of so many bytes says: how many bytes came, or that it failed, and why.
 fn within_room(got: io::Result<usize>, room: usize) -> io::Result<usize>
@@ -32,7 +28,9 @@ fn read_some<R: Read>(from: &mut R, buf: &mut [u8]) -> io::Result<usize>
     within_room(got, buf.len())
 }
 
-// Reads to the end of the input, or until the buffer is full. The bytes stand at the start of the buffer; answers how many.
+// Reads to the end of the input, or until the buffer is full. The bytes stand at the start of the buffer; answers how many. The loop
+// counts them: `read_exact` fails where the input ends, `read_to_end` needs a heap, and `io::copy` into a `Cursor` says of no count that it
+// is at most the room.
 pub fn read<R: Read>(from: &mut R, buf: &mut [u8]) -> io::Result<usize>
     ensures { IfOk result (λ n. n ≤ length buf.old) }
 {

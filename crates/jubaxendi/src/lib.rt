@@ -1,6 +1,6 @@
 // The calls for programs in other languages, which crate `jubaxendi_c` exports. Each returns 0 if it answered, else the refusal as
 // one number, and writes what it answers at the start of a lent list of eight numbers, `answer`, whose rest stays. A refused call
-// writes nothing.
+// writes nothing. C calls each by its own name, with its own parameters and eight numbers to answer in: so none becomes one with another.
 #![tactic(auto)]
 
 ghost use Rattle.std.specs.Prelude.{◌≡◌, ◌++◌, List, ℕ, length, drop};

@@ -1,5 +1,5 @@
 // The calls of crate `jubaxendi` as symbols of a static library, for C and the languages that call C. jubaxendi.h, beside that
-// crate, declares them.
+// crate, declares them. C calls each by its own name and lends eight numbers to answer in: so none becomes one with another.
 #![tactic(auto)]
 
 ghost use Rattle.std.specs.Prelude.{◌≡◌};

@@ -19,7 +19,7 @@ pub fn form(kind: Kind) -> &'static str {
     }
 }
 
-// The kind that a letter stands for.
+// The kind that a letter stands for. A letter of no kind is no error here: so it is an Option, and no TryFrom, which would be no plainer.
 pub fn kind_of(letter: u8) -> Option<Kind>
     ensures { IfSome result (λ kind. (kind_of kind).letter ≡ letter) }
 {

@@ -7,7 +7,7 @@ use lookups::LineSet;
 use network::{Network, Side};
 use std::fmt;
 
-// A station with its record, as "station 1 (record 2)".
+// A station with its record, as "station 1 (record 2)". It is a type beside `LineName`, so that neither is printed as the other.
 #[derive(Clone, Copy, Debug, PartialEq, Eq)]
 pub struct StationName {
     number: usize,

@@ -1,2 +1,3 @@
 mod Turns
 mod Loads
+pub mod Held

@@ -1,14 +1,14 @@
 -- From what the reader and the rules say of a file to what loading answers.
-use Rattle.std.specs.Prelude.{◌≡◌, ℕ, List, Result, Ok, Err, OnOk}
+use Rattle.std.specs.Prelude.{◌≡◌, ℕ, List}
 use Rattle.std.proofs.Common.{sym, ap}
 use Rattle.model.specs.Answer.{given, refused, ◌>>=◌}
 use Rattle.model.specs.Network.{Network, network_of}
 use Rattle.model.specs.Rules.{radial, accepted}
-use Rattle.model.specs.declared.Refusal.{Refusal}
 use Rattle.theory.specs.Reading.{Read, network-read}
 use Rattle.theory.specs.Best.{accepted-is}
-use Rattle.loading.specs.declared.Loaded.{Loaded}
-use Rattle.loading.specs.Loading.{network_says, IsPrepared, IsLoaded}
+use Rattle.tree.specs.declared.Tree.{Tree}
+use Rattle.paths.specs.declared.Paths.{Paths}
+use Rattle.loading.specs.Loading.{IsPrepared, IsLoaded}
 
 module _ (file : List ℕ) where
   pub read-refused : {n i : ℕ} → refused n i ≡ network_of file → refused n i ≡ accepted file
@@ -24,6 +24,5 @@ module _ (file : List ℕ) where
     rules-next = ap (λ a. a >>= λ N. radial N) e
 
   -- what is prepared of an accepted network is loaded
-  pub all-loaded : (r : Result (Unit {0}) Refusal) (l : Loaded) → network_says r l ≡ accepted file → OnOk r (IsPrepared l) → OnOk r (IsLoaded l)
-  all-loaded (Ok u) l e p = record { accepted = accepted-is file l.network (sym e); prepared = p }
-  all-loaded (Err r) l e p = tt
+  pub all-loaded : (N : Network) (t : Tree) (p : Paths) → given N ≡ accepted file → IsPrepared N t p → IsLoaded N t p
+  all-loaded N t p e h = record { accepted = accepted-is file N (sym e); prepared = h }

@@ -12,10 +12,11 @@ use Rattle.model.specs.Paths.{station_numbers, line_numbers}
 use Rattle.model.specs.Rules.{both_open, unprotected, some_path_returns, some_joined, is_supplied, series_broken, unless, unless_some, station_record, line_record, radial}
 use Rattle.theory.specs.Reading.{Read}
 use Rattle.theory.specs.Radial.{Rules}
-use Rattle.end_rules.specs.First.{found, some-found, none-found, first-zero}
+use Rattle.end_rules.specs.First.{first-zero}
 use Rattle.std.specs.Prelude.{Some, None, Result, Ok, Err, OnOk}
 use Rattle.model.specs.declared.Refusal.{Refusal}
 use Rattle.model.specs.declared.Refusal.TheVariants.{OpenLine, PlainAtHv, Ring, Joined, Unsupplied}
+use Rattle.network.specs.Found.{found, none-found, some-found}
 use Rattle.loading.specs.Loading.{forest, before, radial-is}
 
 module _ (test : ℕ → Bool) (refuse : ℕ → Answer Network) (next : Answer Network) where
@@ -78,7 +79,7 @@ module _ (N : Network) where
   abbrev plain_line : ℕ
   plain_line = first_or 0 (unprotected N) (line_numbers N)
 
-  abbrev unsupplied_station : ℕ
+  abbrev pub unsupplied_station : ℕ
   unsupplied_station = first_or 0 (λ s. not (is_supplied N s)) (station_numbers N)
 
   open_line-most : open_line ≤ 1 + length N.lines

@@ -1,4 +1,4 @@
--- What loading a file answers: the rules 4 to 8 in turn, and the network of an accepted file in the buffer.
+-- What is loaded of a file: the rules 4 to 8 in turn, an accepted network, and what is prepared of it.
 use Rattle.std.specs.Prelude.{◌≡◌, refl, not, Result, Ok, Err}
 use Rattle.model.specs.Answer.{Answer, given, refused, refusal_number, refusal_record, refuse_open_line, refuse_plain_at_hv, refuse_return, refuse_joined, refuse_unsupplied, refuse_series}
 use Rattle.model.specs.Network.{Network}
@@ -6,9 +6,10 @@ use Rattle.model.specs.Paths.{station_numbers, line_numbers}
 use Rattle.model.specs.Rules.{both_open, unprotected, some_path_returns, some_joined, is_supplied, series_broken, unless, unless_some, station_record, line_record, radial}
 use Rattle.model.specs.declared.Refusal.{Refusal}
 use Rattle.theory.specs.Best.{Accepted}
-use Rattle.loading.specs.declared.Loaded.{Loaded}
 use Rattle.tree.specs.Held.{HoldsTree}
+use Rattle.tree.specs.declared.Tree.{Tree}
 use Rattle.paths.specs.Held.{HoldsPaths}
+use Rattle.paths.specs.declared.Paths.{Paths}
 
 -- the rules 4 to 8 in turn, before `next`
 unfoldable pub forest : Network → Answer Network → Answer Network
@@ -30,17 +31,12 @@ abbrev pub before : {A : Type 0} → Result (Unit {0}) Refusal → Answer A → 
 before (Ok u) next = next
 before (Err r) next = refused (refusal_number r) (refusal_record r)
 
--- the network of a loaded file, or its refusal
-abbrev pub network_says : Result (Unit {0}) Refusal → Loaded → Answer Network
-network_says (Ok u) l = given l.network
-network_says (Err r) l = refused (refusal_number r) (refusal_record r)
-
 -- what is prepared of an accepted network
-pub record IsPrepared (l : Loaded) : Type 0 where
-  pub tree : HoldsTree l.network l.tree
-  pub paths : HoldsPaths l.network l.paths
+pub record IsPrepared (N : Network) (t : Tree) (p : Paths) : Type 0 where
+  pub tree : HoldsTree N t
+  pub paths : HoldsPaths N p
 
 -- what is loaded is an accepted network, and what is prepared of it
-pub record IsLoaded (l : Loaded) : Type 0 where
-  pub accepted : Accepted l.network
-  pub prepared : IsPrepared l
+pub record IsLoaded (N : Network) (t : Tree) (p : Paths) : Type 0 where
+  pub accepted : Accepted N
+  pub prepared : IsPrepared N t p

@@ -1,27 +1,37 @@
 // A file loaded: read and held to the rules, with the lines from the HV stations outwards and the breakers on their paths.
 #![tactic(auto)]
 
-ghost use Rattle.std.specs.Prelude.{◌≡◌, ◌≤◌, OnOk};
-ghost use Rattle.model.specs.Answer.{Answer};
+ghost use Rattle.std.specs.Prelude.{◌≡◌, ◌≤◌, [], OnOk};
+ghost use Rattle.model.specs.Answer.{Answer, given};
 ghost use Rattle.model.specs.Network.{Network};
 ghost use Rattle.theory.specs.Reading.{Read};
 ghost use Rattle.theory.specs.Radial.{Rules};
 ghost use Rattle.model.specs.Rules.{station_record, line_record, radial, accepted};
 ghost use Rattle.outage.specs.Held.{HoldsCustomers, HoldsImpacts};
-ghost use Rattle.loading.specs.Loading.{forest, before, network_says, IsPrepared, IsLoaded};
+ghost use Rattle.loading.specs.Loading.{forest, before, IsPrepared, IsLoaded};
 
 use model::{Head, Refusal};
 use network::Network;
 use outage::{Behind, Impacts};
 use paths::Paths;
+use radial::Parts;
 use tree::Tree;
 
-// An accepted network, and what is prepared of it: its tree, and what the path of each line meets.
+// Room for a file. It is large for a stack, so a file is loaded where it lies.
 #[derive(Drop)]
-pub struct Loaded {
-    pub network: Network,
-    pub tree: Tree,
-    pub paths: Paths,
+pub struct Room {
+    network: Network,
+    tree: Tree,
+    paths: Paths,
+}
+
+// A loaded file, where it lies: an accepted network, and what is prepared of it: its tree, and what the path of each line meets.
+#[derive(Clone, Copy)]
+pub struct Loaded<'a> {
+    pub network: &'a Network,
+    pub tree: &'a Tree,
+    pub paths: &'a Paths,
+    ghost loaded: { ∥ IsLoaded network.now tree.now paths.now ∥₁ },
 }
 
 // The record of a line: behind the head and the stations.
@@ -56,13 +66,13 @@ fn forest_rules(net: &Network) -> Result<(), Refusal>
             record: line_record(net, line),
         });
     }
-    let Some(labels) = radial::label_paths(net) else {
+    let Some(parts) = Parts::of(net) else {
         return Err(Refusal::Ring);
     };
-    if radial::hv_joined(net, &labels) {
+    if parts.hv_joined() {
         return Err(Refusal::Joined);
     }
-    if let Some(station) = radial::unsupplied(net, &labels) {
+    if let Some(station) = parts.unsupplied() {
         return Err(Refusal::Unsupplied {
             record: station_record(station),
         });
@@ -70,10 +80,14 @@ fn forest_rules(net: &Network) -> Result<(), Refusal>
     Ok(())
 }
 
-impl Loaded {
-    // Room for a file. It is large for a stack, so a file is loaded where it lies.
-    pub fn new() -> Loaded {
-        Loaded {
+impl Room {
+    ghost use Rattle.loading.specs.LoadAnswer.{network_says};
+
+    // Room for any file.
+    pub fn new() -> Room
+        ensures { (result.network.stations ≡ []) × (result.network.lines ≡ []) × (result.network.places ≡ []) }
+    {
+        Room {
             network: Network::new(Head::default()),
             tree: Tree::new(),
             paths: Paths::new(),
@@ -83,8 +97,8 @@ impl Loaded {
     // The rules 4 to 9 in turn. Where they hold, the rest is prepared of the network.
     fn prepare(&mut self) -> Result<(), Refusal>
         requires { Read self.old.network }
-        ensures answer { network_says result self.new ≡ radial self.old.network }
-        ensures prepared { OnOk result (IsPrepared self.new) }
+        ensures answer { before result (given self.new.network) ≡ radial self.old.network }
+        ensures prepared { OnOk result (IsPrepared self.new.network self.new.tree self.new.paths) }
     {
         forest_rules(&self.network)?;
         self.tree.grow(&self.network);
@@ -96,31 +110,35 @@ impl Loaded {
     }
 
     // Reads and checks a file.
-    pub fn load(&mut self, file: &[u8]) -> Result<(), Refusal>
-        ensures answer { network_says result self.new ≡ accepted file.now }
-        ensures loaded { OnOk result (IsLoaded self.new) }
+    pub fn load(&mut self, file: &[u8]) -> Result<Loaded<'_>, Refusal>
+        ensures { network_says result ≡ accepted file.now }
     {
         reader::read(file, &mut self.network)?;
-        self.prepare()
+        self.prepare()?;
+        Ok(Loaded {
+            network: &self.network,
+            tree: &self.tree,
+            paths: &self.paths,
+        })
     }
+}
 
+impl Loaded<'_> {
     // The customers behind each line.
     pub fn customers(&self) -> Behind
-        requires { IsLoaded self.now }
-        ensures { HoldsCustomers self.now.network result }
+        ensures { HoldsCustomers self.now.network.now result }
     {
         let mut behind = Behind::new();
-        behind.sum(&self.network, &self.tree);
+        behind.sum(self.network, self.tree);
         behind
     }
 
     // The impact of a fault on each line, by the breaker that trips for it.
     pub fn impacts(&self) -> Impacts
-        requires { IsLoaded self.now }
-        ensures { HoldsImpacts self.now.network result }
+        ensures { HoldsImpacts self.now.network.now result }
     {
         let mut impacts = Impacts::new();
-        impacts.fill(&self.network, &self.paths, &self.customers());
+        impacts.fill(self.network, self.paths, &self.customers());
         impacts
     }
 }

@@ -3,7 +3,7 @@
 
 use network::{Line, Network, Role, Side, State, Station};
 
-// The station of a number, if there is one.
+// The station of a number, if there is one. This and `line` are one chain each over another list: nothing plainer stands for both.
 pub fn station(network: &Network, number: usize) -> Option<Station> {
     network.stations().get(number.checked_sub(1)?).copied()
 }
@@ -31,7 +31,7 @@ pub fn joined_by(line: &Line) -> Option<(usize, usize)> {
     Some((closed_at(line, Side::One)?, closed_at(line, Side::Two)?))
 }
 
-// A set of lines, by their numbers.
+// A set of lines, by their numbers, of which there are at most 768: fixed memory, without a heap.
 #[derive(Clone, Copy)]
 pub struct LineSet {
     has: [bool; 768],

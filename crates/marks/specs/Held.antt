@@ -1,11 +1,12 @@
 -- What is marked on the ends of a network's lines: on a breaker its code, on a place's end the place's number.
-use Rattle.std.specs.Prelude.{ℕ, zero, suc, ◌*◌, ◌≤◌, ◌≡◌, cond, Option, None, Some, length, get_or}
+use Rattle.std.specs.Prelude.{ℕ, ◌*◌, ◌≤◌, ◌≡◌, cond, Option, None, Some, length, get_or}
 use Rattle.model.specs.Lists.{first_or}
 use Rattle.model.specs.Network.{Network}
 use Rattle.model.specs.Paths.{End, same_end, is_breaker}
 use Rattle.model.specs.Sets.{place_numbers}
 use Rattle.savings.specs.Breakers.{end_at}
 use Rattle.theory.specs.Reading.{Read}
+use Rattle.network.specs.Found.{found}
 use Rattle.tree.specs.Linked.{end_code, code_end}
 use Rattle.marks.specs.declared.Marks.{Marks}
 
@@ -14,11 +15,6 @@ pub record CodeThere (N : Network) (code : ℕ) : Type 0 where
   pub read : Read N
   pub low : 1 ≤ code
   pub high : code ≤ 2 * length N.lines
-
--- a number from 1 on; none for 0
-abbrev pub optional : ℕ → Option ℕ
-optional zero = None
-optional (suc n) = Some (suc n)
 
 -- the number of the place on an end, 0 if there is none
 unfoldable pub place_on : Network → End → ℕ
@@ -38,7 +34,7 @@ IsUnmarked m = (e : End) → mark_on m e ≡ None
 
 -- each place is marked on its end
 abbrev pub HoldsPlaces : Network → Marks → Type 0
-HoldsPlaces N m = (code : ℕ) → 1 ≤ code → code ≤ 2 * length N.lines → get_or m.marks code None ≡ optional (place_on N (code_end code))
+HoldsPlaces N m = (code : ℕ) → 1 ≤ code → code ≤ 2 * length N.lines → get_or m.marks code None ≡ found (place_on N (code_end code))
 
 -- each breaker is marked
 abbrev pub HoldsBreakers : Network → Marks → Type 0

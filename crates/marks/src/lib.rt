@@ -17,7 +17,8 @@ fn breaker_mark(net: &Network, code: usize) -> Option<u16>
     net.is_breaker(tree::end_of(code)).then_some(code as u16)
 }
 
-// The mark on each end, by the end's code.
+// The mark on each end, by the end's code: a number of 16 bits, since several of these tables lie on the stack, of which C is told how
+// much a call needs.
 #[derive(Drop)]
 pub struct Marks {
     marks: [Option<u16>; 1537],

@@ -82,7 +82,7 @@ impl Refusal {
         }
     }
 
-    // The record that the refusal names, 0 if it names none.
+    // The record that the refusal names, 0 if it names none: C and the rows that are printed have it as this number.
     pub fn record(self) -> u64
         ensures { result ≡ refusal_record self }
     {

@@ -1,8 +1,9 @@
 -- The lists of a network, seen through what the definitions have of each element.
-use Rattle.std.specs.Prelude.{◌≡◌, ℕ, zero, suc, ◌-◌, ◌≤◌, ◌<◌, List, [], ◌∷◌, ◌++◌, map, length, take, get_or, set, slice_index_or, slice_set}
+use Rattle.std.specs.Prelude.{◌≡◌, ℕ, zero, suc, ◌-◌, ◌≤◌, ◌<◌, List, [], ◌∷◌, map, length, get_or, set, slice_index_or, slice_set}
 use Rattle.std.specs.List.{refill}
 use Rattle.std.proofs.Common.{refl, ap, ◌∙◌, sub-one, arith}
 use Rattle.std.proofs.lemmas.Grind.{common_steps}
+use Rattle.std.proofs.lemmas.List.{map-set}
 use Rattle.model.specs.Lists.{numbered, renumbered}
 
 module _ {A B : Type 0} (f : A → B) where
@@ -17,17 +18,8 @@ module _ {A B : Type 0} (f : A → B) where
   numbered-held xs zero e d l h = absurd (omega arith)
   numbered-held xs (suc k) e d l h = ap (λ i. f (slice_index_or xs i e)) (sub-one (suc k)) ∙ get_or-held xs k e d (omega arith)
 
-pub map_snoc : {A B : Type 0} (f : A → B) (xs : List A) (x : A) → map f (xs ++ (x ∷ [])) ≡ map f xs ++ (f x ∷ [])
-map_snoc f [] x = refl
-map_snoc {B = B} f (y ∷ xs) x = ap (λ (zs : List B). f y ∷ zs) (map_snoc f xs x)
-
 -- element number k written
 module _ {A B : Type 0} (f : A → B) where
-  map-set : (xs : List A) (k : ℕ) (x : A) → map f (set xs k x) ≡ set (map f xs) k (f x)
-  map-set [] k x = refl
-  map-set (y ∷ xs) zero x = refl
-  map-set (y ∷ xs) (suc k) x = ap (λ (zs : List B). f y ∷ zs) (map-set xs k x)
-
   refill-set : (xs : List A) (k : ℕ) (x : A) → refill (length xs) xs (slice_set xs k x) ≡ set xs k x
   refill-set xs k x = grind (arith, common_steps)
 
@@ -38,9 +30,4 @@ module _ {A B : Type 0} (f : A → B) where
       ap (λ ws. map f (refill (length xs) xs (slice_set ws (suc k - 1) x))) e
       ∙ ap (λ i. map f (refill (length xs) xs (slice_set xs i x))) (sub-one (suc k))
       ∙ ap (map f) (refill-set xs k x)
-      ∙ map-set xs k x
-
-pub map_take : {A B : Type 0} (f : A → B) (n : ℕ) (xs : List A) → map f (take n xs) ≡ take n (map f xs)
-map_take f zero xs = refl
-map_take f (suc n) [] = refl
-map_take {B = B} f (suc n) (x ∷ xs) = ap (λ (ys : List B). f x ∷ ys) (map_take f n xs)
+      ∙ map-set f xs k x

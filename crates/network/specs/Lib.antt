@@ -1,3 +1,4 @@
 pub mod View
 pub mod There
 pub mod Changed
+pub mod Found

@@ -40,10 +40,6 @@ number_again (suc zero) a b = refl
 number_again (suc (suc zero)) a b = refl
 number_again (suc (suc (suc n))) a b = absurd (omega arith)
 
-pub side_bounds : (s : Side) → (1 ≤ side_number s) × (side_number s ≤ 2)
-side_bounds One = (omega arith, omega arith)
-side_bounds Two = (omega arith, omega arith)
-
 abbrev pub station_of_held : HeldStation → Station
 station_of_held s = record { role = role_number s.role; customers = s.customers }
 

@@ -39,7 +39,7 @@ pub enum State {
 }
 
 // An end of a line: end 1 is at its station `from`, end 2 at `to`.
-#[derive(Clone, Copy, Debug, Default, PartialEq, Eq)]
+#[derive(Clone, Copy, Debug, Default, PartialEq, Eq, PartialOrd, Ord)]
 pub enum Side {
     #[default]
     One,
@@ -47,7 +47,7 @@ pub enum Side {
 }
 
 impl Side {
-    // The end with a number, 1 or 2.
+    // The end with a number, 1 or 2. It asks for one of these, so it is no `From`; `number` is its inverse and named like it.
     pub fn of(number: usize) -> Side
         requires { (1 ≤ number) × (number ≤ 2) }
         ensures { side_number result ≡ number }
@@ -165,6 +165,7 @@ impl Line {
     }
 
     // The line with another weight.
+    #[tactic(auto, unfolding(crate::specs::Changed::line_with_weight))]
     pub fn with_weight(self, weight: u64) -> Line
         ensures { line_of_held result ≡ line_with_weight weight (line_of_held self) }
     {
@@ -181,13 +182,17 @@ pub struct Place {
     pub hours: u64,
 }
 
-// A network. A clause sees it as the definitions' record.
+// A network. A clause sees it as the definitions' record. It is filled and changed where it lies, since there is no heap: so that it
+// was read from a file, keeps the rules or is accepted (`Read`, `Rules`, `Accepted`) is no invariant of the type, but stands in the
+// clauses. So does that a number is one of a station, line or place (`StationThere`, `LineThere`, `PlaceThere`), which depends on the
+// network: a type of such numbers would have to borrow it. A table by lines asks less, that it has the number (`LineHeld`): a type for
+// this alone would be made anew at each call, and would be no plainer.
 #[derive(Drop)]
 pub struct Network {
     head: Head,
-    stations: ArrayVec<Station, 512>,
-    lines: ArrayVec<Line, 768>,
-    places: ArrayVec<Place, 64>,
+    stations: ArrayVec<Station, STATIONS>,
+    lines: ArrayVec<Line, LINES>,
+    places: ArrayVec<Place, PLACES>,
 }
 
 impl Model for Network {
@@ -224,6 +229,8 @@ impl Network {
         &self.head
     }
 
+    // The stations, and so the lines and places. The functions below that are alike for the three stay apart: each promises its own
+    // field of the definitions' record, and one generic function would need a trait with that field, its record and its numbers.
     pub fn stations(&self) -> &[Station]
         ensures { map station_of_held result.now ≡ self.now.stations }
     {
@@ -298,7 +305,7 @@ impl Network {
         }
     }
 
-    // The customers of a station.
+    // The customers of a station. This, `weight`, `place_cost` and `place_hours` read one field each: nothing plainer stands for them.
     pub fn customers(&self, station: usize) -> u64
         requires { StationThere self.now station }
         ensures { result ≡ customers_of self.now station }
@@ -358,7 +365,7 @@ impl Network {
         self.line(end.line).state(end.side)
     }
 
-    // Whether an end is plain.
+    // Whether an end is plain. This, `is_breaker` and `is_open` are each a word of the definitions, told by one `matches!`.
     pub fn is_plain(&self, end: End) -> bool
         requires { LineThere self.now end.line }
         ensures { result ≡ is_plain self.now end }

@@ -24,7 +24,7 @@ pub fn lines_at(network: &Network, station: usize) -> LineSet {
     lines
 }
 
-// The label of each station.
+// The label of each station, of which there are at most 512: fixed memory, without a heap.
 #[derive(Clone, Copy)]
 pub struct Parts {
     labels: [usize; 512],

@@ -50,7 +50,8 @@ fn show(rt: &impl Print, file: &[u8]) -> io::Result<()> {
     }
 }
 
-// What is said of each file of the input.
+// What is said of each file of the input. A function of all test programs would take a closure and stand
+// in a crate of its own: that is no plainer.
 fn show_files(rt: &impl Print, input: &[u8]) -> io::Result<()> {
     for part in input.split_inclusive(|&byte| byte == b'=') {
         if let [b'\n', file @ .., b'='] | [file @ .., b'='] = part {
@@ -82,6 +83,7 @@ fn show_others(rt: &impl Print, network: &Network) -> io::Result<()> {
     }
     show_refusal(rt, network, Refusal::OverSeries)?;
     show_refusal(rt, network, Refusal::ShortBuffer)?;
+    // A lent buffer, which keeps what fits.
     let mut short = [b'#'; 24];
     for at in [0, 12, 25] {
         show_kept(rt, network, &mut short, at)?;
@@ -95,13 +97,9 @@ fn show_others_of_two(rt: &impl Print) -> io::Result<()> {
     show_others(rt, &network_of(file))
 }
 
-// Room for the input.
-fn space() -> [u8; 200000] {
-    [0; 200000]
-}
-
 fn main(rt: HostRuntime) -> io::Result<()> {
-    let mut input = space();
+    // Room for the input, fixed as that of the program. Each test program reads by these two lines: a function of them would be no plainer.
+    let mut input = [0; 200000];
     let n = input::read(&mut rt.stdin(), &mut input)?;
     show_files(&rt, &input[..n])?;
     show_others_of_two(&rt)

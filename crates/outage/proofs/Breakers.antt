@@ -21,12 +21,12 @@ use Rattle.outage.specs.declared.Impacts.{Impacts}
 use Rattle.outage.specs.Held.{customers_in, HoldsCustomers, impact_in}
 use Rattle.outage.proofs.Paths.{behind-line}
 
-module _ (N : Network) (d : Read N) (r : Rules N) (p : Paths) (t : HoldsPaths N p) (l : ℕ) (i : LineThere N l) where
-  trip-closed : is_open N (tripped N l) ≡ false
+module _ (N : Network) (d : Read N) (r : Rules N) (l : ℕ) (i : LineThere N l) where
+  pub trip-closed : is_open N (tripped N l) ≡ false
   trip-closed = breaker-closed N (tripped N l) (tripped-breaker N d r l i.low i.high)
 
   -- the line of the breaker that trips
-  module _ (k : ℕ) (q : k ≡ (trip_in p l).line) where
+  module _ (p : Paths) (t : HoldsPaths N p) (k : ℕ) (q : k ≡ (trip_in p l).line) where
     trip-line : k ≡ (tripped N l).line
     trip-line = q ∙ ap (λ (e : End). e.line) (t.trips l i)
 

@@ -1,7 +1,7 @@
 // The customers behind each line, the impact of a fault on it, the total of the outage amounts and the SAIDI figure.
 #![tactic(auto)]
 
-ghost use Rattle.std.specs.Prelude.{◌≡◌, ◌+◌, ◌*◌, ◌-◌, ◌^◌, ◌≤◌, ◌<◌};
+ghost use Rattle.std.specs.Prelude.{ℕ, ◌≡◌, ◌+◌, ◌*◌, ◌-◌, ◌^◌, ◌≤◌, ◌<◌};
 ghost use Rattle.model.specs.Paths.{is_open};
 ghost use Rattle.model.specs.Outage.{impact, outage_amount, total as total_of, figure};
 ghost use Rattle.theory.specs.Reading.{Read};
@@ -21,7 +21,8 @@ use network::{End, Network};
 use paths::Paths;
 use tree::Tree;
 
-// Whether a line hangs: its far end is open, and it feeds no station.
+// Whether a line hangs: its far end is open, and it feeds no station. It is a word of this crate's own, so that the sum's proof does
+// not speak of states.
 fn hangs(net: &Network, far: End) -> bool
     requires { LineThere net.now far.line }
     ensures { result ≡ is_open net.now far }
@@ -37,15 +38,21 @@ fn with_those_behind(sum: u64, behind: u64) -> u64
     sum + behind
 }
 
-// The customers behind each line.
+// The customers behind each line. That they are the network's (`HoldsCustomers`, and `HoldsImpacts` of `Impacts`) stands in the
+// clauses: the numbers are filled in where they lie, and before that they are of no network. `Impacts` has an array like this one but
+// stays a type of its own: to take the impact of a fault for the customers behind the line is an error that the types refuse, and a
+// generic type for both would share no more than the array and its reading.
 #[derive(Drop)]
 pub struct Behind {
+    // for each of at most 768 lines: fixed memory, without a heap
     customers: [u64; 768],
 }
 
 impl Behind {
     // Room for the customers behind 768 lines.
-    pub fn new() -> Behind {
+    pub fn new() -> Behind
+        ensures { (l : ℕ) → customers_in result l ≡ 0 }
+    {
         Behind {
             customers: [0; 768],
         }
@@ -127,12 +134,15 @@ fn trip_line(paths: &Paths, line: usize) -> usize
 // The impact of a fault on each line: the customers behind the line of the breaker that trips for it.
 #[derive(Drop)]
 pub struct Impacts {
+    // fixed memory, as that of `Behind`
     impacts: [u64; 768],
 }
 
 impl Impacts {
     // Room for the impacts of 768 lines.
-    pub fn new() -> Impacts {
+    pub fn new() -> Impacts
+        ensures { (l : ℕ) → impact_in result l ≡ 0 }
+    {
         Impacts { impacts: [0; 768] }
     }
 

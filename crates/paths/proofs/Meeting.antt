@@ -19,10 +19,11 @@ use Rattle.theory.specs.Reading.{Read}
 use Rattle.theory.specs.Ends.{closed-end}
 use Rattle.theory.specs.Above.{breakers-count}
 use Rattle.theory.specs.Behind.{side-of}
+use Rattle.network.specs.Found.{found}
 use Rattle.tree.specs.Linked.{end_code, code_end}
 use Rattle.sets.specs.Stops.{first_place}
 use Rattle.sets.specs.Apart.{place_ends}
-use Rattle.marks.specs.Held.{optional, place_on, mark_on, HoldsPlaces, HoldsBreakers}
+use Rattle.marks.specs.Held.{place_on, mark_on, HoldsPlaces, HoldsBreakers}
 use Rattle.marks.specs.declared.Marks.{Marks}
 use Rattle.marks.proofs.Marking.{There, end-of-code}
 use Rattle.marks.proofs.PlaceOn.{place-or-none, no-end-unplaced}
@@ -98,26 +99,26 @@ module _ (N : Network) (marks : Marks) (h : HoldsBreakers N marks) where
       go false b ih = (λ i. breaker_of (met_next (cond (b i) (Some (end_code e)) None) (met_on marks es)).first) ∙ ih (ap (λ b. b || any (λ e. is_breaker N e) es) (sym b) ∙ x) ∙ ap (λ b. this b e last) (sym b)
 
 -- ── the places ──
-some-else : (k : ℕ) (y : Option ℕ) → 1 ≤ k → or_else (optional k) y ≡ optional k
+some-else : (k : ℕ) (y : Option ℕ) → 1 ≤ k → or_else (found k) y ≡ found k
 some-else zero y h = absurd (omega arith)
 some-else (suc k) y h = refl
 
 -- the place that a path meets first: that on its first end if it has one
-pub first_next : (N : Network) (e : End) (es : List End) (x y : Option ℕ) → x ≡ optional (place_on N e) → y ≡ optional (place_on N (first_place (place_ends N) es))
-    → or_else x y ≡ optional (place_on N (first_place (place_ends N) (e ∷ es)))
+pub first_next : (N : Network) (e : End) (es : List End) (x y : Option ℕ) → x ≡ found (place_on N e) → y ≡ found (place_on N (first_place (place_ends N) es))
+    → or_else x y ≡ found (place_on N (first_place (place_ends N) (e ∷ es)))
 unfolding first_or
 first_next N e es x y p q = ⊎_elim
-    (λ n. ap (λ x. or_else x y) (p ∙ ap optional n.0) ∙ q ∙ ap (λ b. optional (place_on N (this b e (first_place (place_ends N) es)))) (sym n.1))
-    (λ g. ap (λ x. or_else x y) p ∙ some-else (place_on N e) y g.low ∙ ap (λ b. optional (place_on N (this b e (first_place (place_ends N) es)))) (sym g.listed))
+    (λ n. ap (λ x. or_else x y) (p ∙ ap found n.0) ∙ q ∙ ap (λ b. found (place_on N (this b e (first_place (place_ends N) es)))) (sym n.1))
+    (λ g. ap (λ x. or_else x y) p ∙ some-else (place_on N e) y g.low ∙ ap (λ b. found (place_on N (this b e (first_place (place_ends N) es)))) (sym g.listed))
     (place-or-none N e)
 
 module _ (N : Network) (d : Read N) (marks : Marks) (h : HoldsPlaces N marks) where
-  pub place-mark : (e : End) → is_open N e ≡ false → mark_on marks e ≡ optional (place_on N e)
-  place-mark e c = closed-mark N marks (λ code d. optional (place_on N d)) h e c
+  pub place-mark : (e : End) → is_open N e ≡ false → mark_on marks e ≡ found (place_on N e)
+  place-mark e c = closed-mark N marks (λ code d. found (place_on N d)) h e c
 
-  pub places-met : (es : List End) → AllClosed N es → (met_on marks es).first ≡ optional (place_on N (first_place (place_ends N) es))
+  pub places-met : (es : List End) → AllClosed N es → (met_on marks es).first ≡ found (place_on N (first_place (place_ends N) es))
   unfolding met_on first_or
-  places-met [] c = sym (ap optional (no-end-unplaced N d).0)
+  places-met [] c = sym (ap found (no-end-unplaced N d).0)
   places-met (e ∷ es) c =
       met-first (mark_on marks e) (met_on marks es)
       ∙ first_next N e es (mark_on marks e) (met_on marks es).first (place-mark e (c e (Memᴰ.head refl))) (places-met es (λ d m. c d (Memᴰ.tail m)))

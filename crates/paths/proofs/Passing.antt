@@ -1,6 +1,5 @@
 -- What the paths of the lines meet, line by line from the HV stations outwards.
 use Rattle.std.specs.Prelude.{None, Some}
-use Rattle.std.proofs.lemmas.Option.{none-some, same_Some}
 use Prim.Native.Nat.{ℕ, zero, suc, ◌+◌, ◌-◌, ◌≤◌, ◌<◌}
 use mathlib.Core.Path.{◌≡◌, refl, sym, ap, ◌∙◌, subst}
 use mathlib.Core.List.{List, ◌∷◌}
@@ -16,7 +15,8 @@ use Rattle.theory.specs.Radial.{Rules}
 use Rattle.theory.specs.Forest.{tree}
 use Rattle.theory.specs.Behind.{far}
 use Rattle.network.specs.There.{LineThere}
-use Rattle.tree.specs.Outwards.{near_end, feeder, some_line, fed_by}
+use Rattle.network.specs.Found.{none-found, some-found}
+use Rattle.tree.specs.Outwards.{near_end, feeder, fed_by}
 use Rattle.tree.specs.Feeding.{Fed, by_hv, by_line}
 use Rattle.tree.specs.Linked.{LineHeld}
 use Rattle.tree.specs.Held.{near_in, feeder_in, lines_in, HoldsTree}
@@ -38,21 +38,13 @@ beyond-is N zero h = absurd (omega arith)
 beyond-is N (suc l) h = refl
 
 -- ── the line that feeds a line ──
-none-line : (k : ℕ) → some_line k ≡ None → k ≡ 0
-none-line zero h = refl
-none-line (suc k) h = absurd (none-some (suc k) (sym h))
-
-a-line : (k l : ℕ) → some_line k ≡ Some l → (k ≡ l) × (1 ≤ k)
-a-line zero l h = absurd (none-some l h)
-a-line (suc k) l h = (same_Some (suc k) l h, omega arith)
-
 pub fed-none : (N : Network) (l : ℕ) → fed_by N l ≡ None → feeder N l ≡ 0
 unfolding fed_by
-fed-none N l h = none-line (feeder N l) h
+fed-none N l h = none-found (feeder N l) h
 
 pub fed-some : (N : Network) (l k : ℕ) → fed_by N l ≡ Some k → (feeder N l ≡ k) × (1 ≤ feeder N l)
 unfolding fed_by
-fed-some N l k h = a-line (feeder N l) k h
+fed-some N l k h = some-found (feeder N l) k h
 
 module _ (N : Network) (d : Read N) (r : Rules N) (l : ℕ) (i : 1 ≤ l) (j : l ≤ length N.lines) where
   -- the near end of a line is end 1 or 2 of it
@@ -161,12 +153,12 @@ module _ (N : Network) (t : Tree) (marks : Marks) (mets : List Met) (d : Read N)
 
 -- ── what they are ──
 module _ (N : Network) (d : Read N) (r : Rules N) (marks : Marks) where
-  pub paths-held : (p : Paths) → HoldsMets N marks p.mets → HoldsBreakers N marks → HoldsPaths N p
+  pub paths-held : (p : Paths) → HoldsMets N marks p.mets.lines → HoldsBreakers N marks → HoldsPaths N p
   unfolding tripped
   paths-held p m h = record {
     trips = λ l a. ap (λ (m : Met). breaker_of m.first) (m l a) ∙ trips-met N marks h (route N l) (route-closed N d r l a.low a.high) ((tree N d r).trips l a.low a.high);
     counts = λ l a. ap (λ (m : Met). m.count) (m l a) ∙ breakers-met N marks h (route N l) (route-closed N d r l a.low a.high);
   }
 
-  pub firsts-held : (f : Firsts) → HoldsMets N marks f.mets → HoldsPlaces N marks → HoldsFirsts N f
+  pub firsts-held : (f : Firsts) → HoldsMets N marks f.mets.lines → HoldsPlaces N marks → HoldsFirsts N f
   firsts-held f m h l a = ap (λ (m : Met). m.first) (m l a) ∙ places-met N d marks h (route N l) (route-closed N d r l a.low a.high)

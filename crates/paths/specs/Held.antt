@@ -6,6 +6,7 @@ use Rattle.model.specs.Paths.{line, End}
 use Rattle.model.specs.Rules.{breakers_on}
 use Rattle.model.specs.Outage.{path_to_hv, tripped}
 use Rattle.network.specs.There.{LineThere, end_in}
+use Rattle.network.specs.Found.{found}
 use Rattle.theory.specs.Behind.{far}
 use Rattle.tree.specs.Linked.{code_end}
 use Rattle.tree.specs.Held.{near_in}
@@ -13,7 +14,7 @@ use Rattle.tree.specs.declared.Tree.{Tree}
 use Rattle.sets.specs.Stops.{first_place}
 use Rattle.sets.specs.Apart.{place_ends}
 use Rattle.sets.specs.Sets.{route}
-use Rattle.marks.specs.Held.{optional, place_on, mark_on}
+use Rattle.marks.specs.Held.{place_on, mark_on}
 use Rattle.marks.specs.declared.Marks.{Marks}
 use Rattle.paths.specs.Meets.{or_else, met_in}
 use Rattle.paths.specs.declared.Paths.{Paths}
@@ -26,10 +27,10 @@ breaker_of (Some code) = code_end code
 
 -- what is held of a line: the breaker that trips for it, and how many breakers are on its path
 abbrev pub trip_in : Paths → ℕ → End
-trip_in p l = breaker_of (met_in p.mets l).first
+trip_in p l = breaker_of (met_in p.mets.lines l).first
 
 abbrev pub count_in : Paths → ℕ → ℕ
-count_in p l = (met_in p.mets l).count
+count_in p l = (met_in p.mets.lines l).count
 
 -- the breakers on a line's path
 abbrev pub path_breakers : Network → ℕ → ℕ
@@ -41,10 +42,10 @@ pub record HoldsPaths (N : Network) (p : Paths) : Type 0 where
 
 -- the first place on the path of a line, and on that of the station that the line feeds
 abbrev pub first_in : Firsts → ℕ → Option ℕ
-first_in f l = (met_in f.mets l).first
+first_in f l = (met_in f.mets.lines l).first
 
 abbrev pub first_beyond_in : Firsts → Tree → Marks → ℕ → Option ℕ
 first_beyond_in f t places l = or_else (mark_on places (far (near_in t l))) (first_in f l)
 
 abbrev pub HoldsFirsts : Network → Firsts → Type 0
-HoldsFirsts N f = (l : ℕ) → LineThere N l → first_in f l ≡ optional (place_on N (first_place (place_ends N) (route N l)))
+HoldsFirsts N f = (l : ℕ) → LineThere N l → first_in f l ≡ found (place_on N (first_place (place_ends N) (route N l)))

@@ -11,13 +11,14 @@ ghost use Rattle.tree.specs.Held.{near_in, HoldsTree};
 ghost use Rattle.sets.specs.Sets.{route};
 ghost use Rattle.marks.specs.Held.{mark_on, HoldsPlaces};
 ghost use Rattle.paths.specs.Held.{trip_in, count_in, first_in, first_beyond_in, HoldsPaths, HoldsFirsts};
-ghost use Rattle.paths.specs.Meets.{met_next, met_on, HoldsMets, Known};
+ghost use Rattle.paths.specs.Meets.{met_next, met_on, met_in, HoldsMets, Known};
 
 use marks::Marks;
 use network::{End, Network};
 use tree::Tree;
 
-// The marks that a path to the HV station meets: the first, and how many.
+// The marks that a path to the HV station meets: the first, and how many. A mark has 16 bits, so that a loaded file keeps within the stack
+// that C is told of.
 #[derive(Clone, Copy)]
 struct Met {
     first: Option<u16>,
@@ -55,35 +56,58 @@ fn far_mark(tree: &Tree, marks: &Marks, line: usize) -> Option<u16>
     marks.on(tree.far(line))
 }
 
-// What the path of a line meets, where `mets` has that of the line that feeds it.
-fn line_met(net: &Network, tree: &Tree, marks: &Marks, mets: &[Met; 768], line: usize) -> Met
-    requires { Known net.now tree.now marks.now mets.now line }
-    ensures { result ≡ met_on marks.now (route net.now line) }
-{
-    let beyond = match tree.feeder(line) {
-        None => Met::NONE,
-        Some(feeder) => {
-            let met = mets[feeder - 1];
-            met.behind(far_mark(tree, marks, feeder))
-        }
-    };
-    beyond.behind(marks.on(tree.near(line)))
+// What the path of each line meets.
+#[derive(Drop)]
+struct Mets {
+    lines: [Met; 768],
 }
 
-// What the path of each line meets, from the HV stations outwards.
-fn follow(net: &Network, tree: &Tree, marks: &Marks, mets: &mut [Met; 768])
-    requires { Read net.now × Rules net.now × HoldsTree net.now tree.now }
-    ensures { HoldsMets net.now marks.now mets.new }
-{
-    for &line in tree.lines() {
-        mets[line - 1] = line_met(net, tree, marks, mets, line);
+impl Mets {
+    // Paths without marks.
+    const NONE: Mets = Mets {
+        lines: [Met::NONE; 768],
+    };
+
+    // What the path of a line meets.
+    fn of(&self, line: usize) -> Met
+        requires { LineHeld line }
+        ensures { result ≡ met_in self.now.lines line }
+    {
+        self.lines[line - 1]
+    }
+
+    // What the path of a line meets, where that of the line that feeds it is held.
+    fn line_met(&self, net: &Network, tree: &Tree, marks: &Marks, line: usize) -> Met
+        requires { Known net.now tree.now marks.now self.now.lines line }
+        ensures { result ≡ met_on marks.now (route net.now line) }
+    {
+        let beyond = match tree.feeder(line) {
+            None => Met::NONE,
+            Some(feeder) => {
+                let met = self.of(feeder);
+                met.behind(far_mark(tree, marks, feeder))
+            }
+        };
+        beyond.behind(marks.on(tree.near(line)))
+    }
+
+    // Follows the path of each line, from the HV stations outwards.
+    fn follow(&mut self, net: &Network, tree: &Tree, marks: &Marks)
+        requires { Read net.now × Rules net.now × HoldsTree net.now tree.now }
+        ensures { HoldsMets net.now marks.now self.new.lines }
+    {
+        for &line in tree.lines() {
+            self.lines[line - 1] = self.line_met(net, tree, marks, line);
+        }
     }
 }
 
-// The breaker that trips for each line, and how many breakers are on its path.
+// The breaker that trips for each line, and how many breakers are on its path. It does not borrow the network, beside which it lies in
+// a loaded file: so that it is the network's (`HoldsPaths`) stands in the clauses. What it has in common with `Firsts`, whose marks are
+// places, is `Mets`, which both have inside; what they answer differs.
 #[derive(Drop)]
 pub struct Paths {
-    mets: [Met; 768],
+    mets: Mets,
 }
 
 impl Paths {
@@ -91,9 +115,7 @@ impl Paths {
     pub fn new() -> Paths
         ensures { (l : ℕ) → count_in result l ≡ 0 }
     {
-        Paths {
-            mets: [Met::NONE; 768],
-        }
+        Paths { mets: Mets::NONE }
     }
 
     // Follows the paths of a network's lines.
@@ -103,15 +125,15 @@ impl Paths {
     {
         let mut breakers = Marks::new();
         breakers.mark_breakers(net);
-        follow(net, tree, &breakers, &mut self.mets);
+        self.mets.follow(net, tree, &breakers);
     }
 
-    // The breaker that trips for a line.
+    // The breaker that trips for a line; the specification's end of line 0 where none does.
     pub fn trip(&self, line: usize) -> End
         requires { LineHeld line }
         ensures { result ≡ trip_in self.now line }
     {
-        match self.mets[line - 1].first {
+        match self.mets.of(line).first {
             Some(code) => tree::end_of(code as usize),
             None => End::default(),
         }
@@ -122,14 +144,14 @@ impl Paths {
         requires { LineHeld line }
         ensures { result ≡ count_in self.now line }
     {
-        self.mets[line - 1].count
+        self.mets.of(line).count
     }
 }
 
 // The first place on the path of each line.
 #[derive(Drop)]
 pub struct Firsts {
-    mets: [Met; 768],
+    mets: Mets,
 }
 
 impl Firsts {
@@ -137,9 +159,7 @@ impl Firsts {
     pub fn new() -> Firsts
         ensures { (l : ℕ) → first_in result l ≡ None }
     {
-        Firsts {
-            mets: [Met::NONE; 768],
-        }
+        Firsts { mets: Mets::NONE }
     }
 
     // Follows the paths of a network's lines, by the marks of its places.
@@ -148,7 +168,7 @@ impl Firsts {
             × HoldsPlaces net.now places.now }
         ensures { HoldsFirsts net.now self.new }
     {
-        follow(net, tree, places, &mut self.mets);
+        self.mets.follow(net, tree, places);
     }
 
     // The first place on the path of a line.
@@ -156,7 +176,7 @@ impl Firsts {
         requires { LineHeld line }
         ensures { result ≡ first_in self.now line }
     {
-        let place = self.mets[line - 1].first?;
+        let place = self.mets.of(line).first?;
         Some(place as usize)
     }
 

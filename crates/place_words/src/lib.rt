@@ -4,6 +4,7 @@
 ghost use Rattle.std.specs.Prelude.{◌≤◌};
 
 use file_parts::{Announced, Record};
+use network::Side;
 use std::cmp::Ordering;
 use std::fmt;
 
@@ -11,16 +12,18 @@ use std::fmt;
 #[derive(Clone, Copy, Debug, PartialEq, Eq, PartialOrd, Ord)]
 struct End {
     line: u64,
-    side: u64,
+    side: Side,
     ghost few_lines: { line ≤ 768 },
-    ghost two_sides: { side ≤ 2 },
 }
 
 impl End {
     // The end that a place names, if a file can have it.
     fn named_by(place: Record<'_>) -> Option<End> {
         match (place.number(1)?, place.number(2)?) {
-            (line @ 1..=768, side @ 1..=2) => Some(End { line, side }),
+            (line @ 1..=768, side @ 1..=2) => Some(End {
+                line,
+                side: Side::of(side as usize),
+            }),
             _ => None,
         }
     }
@@ -28,8 +31,7 @@ impl End {
 
 impl fmt::Display for End {
     fn fmt<W: fmt::Write>(&self, f: &mut fmt::Formatter<W>) -> fmt::Result {
-        let End { line, side } = *self;
-        write!(f, "line {line}, end {side}")
+        write!(f, "line {}, end {}", self.line, self.side.number())
     }
 }
 
@@ -74,7 +76,7 @@ fn order_fault(end: End, before: End) -> Option<Fault> {
 // How the end of a place is not plain.
 fn state_fault(file: &[u8], announced: Announced, end: End) -> Option<Fault> {
     let record = 1 + announced.stations + end.line;
-    let field = 3 + end.side as usize;
+    let field = 3 + end.side.number();
     let taken = match Record::find(file, record)?.number(field)? {
         1 => Taken::Breaker,
         2 => Taken::Open,
@@ -126,7 +128,7 @@ impl fmt::Display for WrongPlace {
             Fault::NotPlain { end, taken, record } => write!(
                 f,
                 "it names {end}, which {taken} (state{} of record {record}); delete this place or correct that record.",
-                end.side
+                end.side.number()
             ),
         }
     }

@@ -1,12 +1,12 @@
 -- The network with a set's breakers: what is known of it, and what is the same as without them.
-use Prim.Native.Nat.{ℕ, ◌+◌, ◌-◌, ◌≤◌, ◌<◌}
+use Prim.Native.Nat.{ℕ, zero, suc, ◌+◌, ◌≤◌, ◌<◌}
 use mathlib.Core.Path.{◌≡◌, refl, sym, ap, ◌∙◌, subst}
 use mathlib.Core.Bool.{Bool, true, false}
 use mathlib.Core.List.{List, [], ◌∷◌, Sublistᴰ}
 use native.Mathlib.Numerals.{add-one}
 use native.Mathlib.Omega.{arith}
 use lib.Dec.{eqb}
-use lib.ListN.{length, get_or, take}
+use lib.ListN.{length, get_or, take, drop}
 use lib.Seq.{take-suc, take_all}
 use Rattle.model.specs.Lists.{keep}
 use Rattle.model.specs.Network.{Network, Station}
@@ -21,8 +21,9 @@ use Rattle.theory.specs.Best.{Accepted, member-place, set-valid}
 use Rattle.theory.specs.With.{with_read, with-rules}
 use Rattle.network.specs.There.{StationThere, LineThere, PlaceThere, place_end}
 use Rattle.network.specs.Changed.{with_state, breaker-is-state}
+use Rattle.network.specs.Found.{found}
 use Rattle.tree.specs.Linked.{ends_at}
-use Rattle.tree.specs.Outwards.{first_end, near_end, second_line, feeder, some_line, fed_by}
+use Rattle.tree.specs.Outwards.{first_end, near_end, second_line, feeder, fed_by}
 use Rattle.tree.specs.declared.Tree.{Tree}
 use Rattle.tree.specs.Held.{lines_in, HoldsTree}
 use Rattle.outage.specs.declared.Behind.{Behind}
@@ -95,7 +96,7 @@ module _ (M N : Network) (s : Same M N) where
 
   fed_by-same : (l : ℕ) → fed_by M l ≡ fed_by N l
   unfolding fed_by
-  fed_by-same l = ap some_line (feeder-same l)
+  fed_by-same l = ap found (feeder-same l)
 
   tree-same : (t : Tree) → HoldsTree N t → HoldsTree M t
   tree-same t o = record {
@@ -134,3 +135,21 @@ module _ (N : Network) (a : Accepted N) (S : List ℕ) (s : Sublistᴰ S (place_
   pub total-still : {t : ℕ} → t ≡ total b → t ≡ set_total N S
   unfolding set_total
   total-still h = h ∙ ap total e
+
+-- some members of a set of places are a set of places
+first_members : {S P : List ℕ} → Sublistᴰ S P → (n : ℕ) → Sublistᴰ (take n S) P
+first_members Sublistᴰ.slnil zero = Sublistᴰ.slnil
+first_members Sublistᴰ.slnil (suc n) = Sublistᴰ.slnil
+first_members (Sublistᴰ.cons s) n = Sublistᴰ.cons (first_members s n)
+first_members (Sublistᴰ.cons-cons e s) zero = Sublistᴰ.cons (first_members s zero)
+first_members (Sublistᴰ.cons-cons e s) (suc n) = Sublistᴰ.cons-cons e (first_members s n)
+
+later_members : {S P : List ℕ} → Sublistᴰ S P → (n : ℕ) → Sublistᴰ (drop n S) P
+later_members Sublistᴰ.slnil zero = Sublistᴰ.slnil
+later_members Sublistᴰ.slnil (suc n) = Sublistᴰ.slnil
+later_members (Sublistᴰ.cons s) n = Sublistᴰ.cons (later_members s n)
+later_members (Sublistᴰ.cons-cons e s) zero = Sublistᴰ.cons-cons e s
+later_members (Sublistᴰ.cons-cons e s) (suc n) = Sublistᴰ.cons (later_members s n)
+
+pub some_members : {S P : List ℕ} (n m : ℕ) → Sublistᴰ S P → Sublistᴰ (take n (drop m S)) P
+some_members n m s = first_members (later_members s m) n

@@ -12,7 +12,6 @@ ghost use Rattle.model.specs.Sets.{place_numbers, with_breakers, set_total};
 ghost use Rattle.model.specs.Walk.{search};
 ghost use Rattle.search.specs.Walking.{found_in};
 ghost use Rattle.starts.specs.Outlook.{HoldsOutlook};
-ghost use Rattle.loading.specs.Loading.{IsLoaded};
 ghost use Rattle.relations.specs.Related.{HoldsRelations};
 ghost use Rattle.planning.specs.Planned.{plan_found};
 
@@ -41,36 +40,34 @@ pub struct Plan {
 
 // How the places of an accepted network stand to each other, and what a breaker on each would do before any is chosen.
 fn prepare(loaded: &Loaded, relations: &mut Relations, start: &mut Outlook)
-    requires { IsLoaded loaded.now }
-    ensures related { HoldsRelations loaded.now.network relations.new }
-    ensures start { HoldsOutlook loaded.now.network [] 1 start.new }
+    ensures related { HoldsRelations loaded.now.network.now relations.new }
+    ensures start { HoldsOutlook loaded.now.network.now [] 1 start.new }
 {
-    let net = &loaded.network;
+    let net = loaded.network;
     let mut places = Marks::new();
     places.mark_places(net);
     let mut firsts = Firsts::new();
-    firsts.follow(net, &loaded.tree, &places);
+    firsts.follow(net, loaded.tree, &places);
     let routes = Routes {
         net,
-        tree: &loaded.tree,
+        tree: loaded.tree,
         places: &places,
         firsts: &firsts,
     };
     relations.relate(&routes);
-    start.start(&routes, &loaded.paths, relations);
+    start.start(&routes, loaded.paths, relations);
 }
 
 // The walk over the sets of an accepted network, with the customers behind each line.
 fn best_set(loaded: &Loaded, behind: &Behind, course: &mut Course)
-    requires loaded { IsLoaded loaded.now }
-    requires customers { HoldsCustomers loaded.now.network behind.now }
-    ensures found { found_in loaded.now.network course.new.progress ≡ search loaded.now.network }
+    requires { HoldsCustomers loaded.now.network.now behind.now }
+    ensures found { found_in loaded.now.network.now course.new.progress ≡ search loaded.now.network.now }
     ensures few { length course.new.progress.best.items ≤ 16 }
 {
     let mut relations = Relations::new();
     prepare(loaded, &mut relations, &mut course.prospects.outlook);
     let tables = Tables {
-        net: &loaded.network,
+        net: loaded.network,
         relations: &relations,
         behind,
     };
@@ -104,6 +101,7 @@ fn add_breakers(net: &mut Network, members: &[usize])
 }
 
 // Makes a network another with a breaker at each place of a set.
+#[tactic(auto, using(crate::proofs::Changing::some_members))]
 fn with_breakers(net: &Network, members: &[usize], changed: &mut Network)
     requires { Read net.now × Sublistᴰ members.now (place_numbers net.now) }
     ensures { changed.new ≡ with_breakers net.now members.now }
@@ -114,14 +112,14 @@ fn with_breakers(net: &Network, members: &[usize], changed: &mut Network)
 
 // The total of a set: that of the network with its breakers.
 fn total_with(loaded: &Loaded, behind: &Behind, members: &[usize]) -> Total
-    requires loaded { IsLoaded loaded.now × HoldsCustomers loaded.now.network behind.now }
-    requires places { Sublistᴰ members.now (place_numbers loaded.now.network) }
-    ensures { result.0 ≡ set_total loaded.now.network members.now }
+    requires customers { HoldsCustomers loaded.now.network.now behind.now }
+    requires places { Sublistᴰ members.now (place_numbers loaded.now.network.now) }
+    ensures { result.0 ≡ set_total loaded.now.network.now members.now }
 {
     let mut changed = Network::new(Head::default());
-    with_breakers(&loaded.network, members, &mut changed);
+    with_breakers(loaded.network, members, &mut changed);
     let mut paths = Paths::new();
-    paths.follow(&changed, &loaded.tree);
+    paths.follow(&changed, loaded.tree);
     let mut impacts = Impacts::new();
     impacts.fill(&changed, &paths, behind);
     outage::total_of(&changed, &impacts)
@@ -129,9 +127,8 @@ fn total_with(loaded: &Loaded, behind: &Behind, members: &[usize]) -> Total
 
 // The search of an accepted network, with the customers behind each line.
 pub fn best_plan(loaded: &Loaded, behind: &Behind) -> Plan
-    requires loaded { IsLoaded loaded.now }
-    requires customers { HoldsCustomers loaded.now.network behind.now }
-    ensures found { plan_found result ≡ search loaded.now.network }
+    requires { HoldsCustomers loaded.now.network.now behind.now }
+    ensures found { plan_found result ≡ search loaded.now.network.now }
     ensures few { length result.members.items ≤ 16 }
 {
     let mut course = Course::new();
@@ -148,8 +145,7 @@ pub fn best_plan(loaded: &Loaded, behind: &Behind) -> Plan
 
 // The search of an accepted network.
 pub fn search_network(loaded: &Loaded) -> Plan
-    requires { IsLoaded loaded.now }
-    ensures found { plan_found result ≡ search loaded.now.network }
+    ensures found { plan_found result ≡ search loaded.now.network.now }
     ensures few { length result.members.items ≤ 16 }
 {
     let behind = loaded.customers();

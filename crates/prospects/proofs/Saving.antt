@@ -6,6 +6,7 @@ use mathlib.Core.List.{List, [], ◌∷◌, ◌++◌, map}
 use native.Mathlib.Omega.{arith}
 use lib.ListN.{length, length-map}
 use Rattle.std.specs.Prelude.{None}
+use Rattle.std.proofs.lemmas.List.{map-append}
 use Rattle.model.specs.Lists.{numbers}
 use Rattle.model.specs.Network.{Network}
 use Rattle.model.specs.Sets.{place_numbers, with_breakers, set_total, saving}
@@ -32,10 +33,6 @@ unfolding numbers
 numbers-last from zero = ap (λ n. n ∷ []) (omega arith)
 numbers-last from (suc count) = ap (λ ns. from ∷ ns) (numbers-last (from + 1) count ∙ ap (λ n. numbers (from + 1) count ++ (n ∷ [])) {x = from + 1 + count} {y = from + suc count} (omega arith))
 
-map_last : (f : ℕ → ℕ) (xs : List ℕ) (x : ℕ) → map f (xs ++ (x ∷ [])) ≡ map f xs ++ (f x ∷ [])
-map_last f [] x = refl
-map_last f (y ∷ xs) x = ap (λ ys. f y ∷ ys) (map_last f xs x)
-
 -- the savings of the places before one
 abbrev pub Saved : Network → ℕ → List ℕ → Type 0
 Saved N place savings = savings ≡ map (λ p. saving N p) (numbers 1 (place - 1))
@@ -56,7 +53,7 @@ module _ (N : Network) where
     saved_more v e =
         let f : ℕ → ℕ = λ p. saving N p in
         (λ i. s i ++ ((saving-is N place v e ∙ ap f {x = place} {y = 1 + (place - 1)} (omega arith)) i ∷ []))
-        ∙ sym (map_last f (numbers 1 (place - 1)) (1 + (place - 1)))
+        ∙ sym (map-append f (numbers 1 (place - 1)) ((1 + (place - 1)) ∷ []))
         ∙ ap (map f) (sym (numbers-last 1 (place - 1)))
         ∙ ap (λ n. map f (numbers 1 n)) {x = suc (place - 1)} {y = place + 1 - 1} (omega arith)
 

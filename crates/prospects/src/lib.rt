@@ -118,6 +118,7 @@ impl<'a> Choice<'a> {
 #[derive(Drop)]
 pub struct Prospects {
     pub outlook: Outlook,
+    // in one array: as an array of rows it was tried, and the check has no rule for repeating a row of structs
     kept: [Prospect; 1040],
     ghost rows: { length kept ≡ 1040 },
 }

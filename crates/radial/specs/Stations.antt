@@ -1,5 +1,8 @@
 -- What the loops over the stations' labels keep: the station's own numbers, a label renamed, the labels of HV stations marked.
-use Rattle.std.specs.Prelude.{ℕ, zero, suc, replicate, ◌+◌, ◌≤◌, ◌<◌, ◌≡◌, refl, Bool, true, false, ◌≢◌, List, length, get_or, set}
+use Rattle.std.specs.Prelude.{ℕ, ◌+◌, ◌≤◌, ◌<◌, ◌≡◌, refl, Bool, true, false, ◌≢◌, List, length, get_or, set}
+use Rattle.std.specs.Coded.{×_prop, le_prop, Coded-set, coded_bool}
+use mathlib.Core.HLevel.{⊥_prop}
+use Rattle.std.proofs.Math.Logic.{∥∥₁_elim}
 use Rattle.std.proofs.Common.{sym, ap, ◌∙◌, subst, true≢false, arith, length-set, get_or-set_same, get_or-set_other}
 use Rattle.std.proofs.Math.Decide.{ℕ_discrete, dec_lt}
 use Rattle.model.specs.Network.{Network}
@@ -7,7 +10,13 @@ use Rattle.model.specs.Paths.{is_hv}
 use Rattle.model.specs.Rules.{some_joined, is_supplied}
 use Rattle.graphs.specs.Labels.{relabel, relabel-same, relabel-other}
 use Rattle.theory.specs.Reading.{Read}
+use Rattle.network.specs.There.{StationThere}
 use Rattle.theory.specs.Labels.{label_of, Labelled, hv-in, labelled-joined, labelled-supplied}
+
+-- the parts of a network that is read: two stations have one label just where a path joins them
+pub record HoldsParts (N : Network) (labels : List ℕ) : Type 0 where
+  pub read : Read N
+  pub labelled : Labelled N (length N.lines) labels
 
 -- a file has at most 512 stations
 pub few-stations : {N : Network} → Read N → length N.stations ≤ 512
@@ -102,53 +111,52 @@ module _ {N : Network} {labels : List ℕ} {s : ℕ} where
           go g h b c p r (yes u) = λ t. true≢false (sym (m.on g (omega arith) p) ∙ ap (λ n. get_or marks n false) (sym (e ∙ sym (t ∙ ap (label_of labels) u))) ∙ z)
           go g h b c p r (no u) = a.differ g h b (omega arith) p r
 
-pub nowhere : (n x : ℕ) → get_or (replicate n false) x false ≡ false
-nowhere zero x = refl
-nowhere (suc n) zero = refl
-nowhere (suc n) (suc x) = nowhere n x
+module _ {N : Network} {labels : List ℕ} (m : ∥ HoldsParts N labels ∥₁) where
+  -- an HV station is a station
+  hv-there : (h : ℕ) → is_hv N h ≡ true → (1 ≤ h) × (h ≤ length N.stations)
+  hv-there h p = ∥∥₁_elim m (×_prop le_prop le_prop) (λ q. hv-in N q.read h p)
 
-module _ {N : Network} (d : Read N) where
-  pub marked_start : (labels : List ℕ) (marks : List Bool) → length marks ≡ 513 → ((x : ℕ) → get_or marks x false ≡ false) → Marked N labels 1 marks
-  marked_start labels marks l z = record {
+  pub marked_start : (marks : List Bool) → length marks ≡ 513 → ((x : ℕ) → get_or marks x false ≡ false) → Marked N labels 1 marks
+  marked_start marks l z = record {
     long = l;
-    on = λ h b p. absurd (omega (arith, (hv-in N d h p).0));
+    on = λ h b p. absurd (omega (arith, (hv-there h p).0));
     back = λ x e. absurd (true≢false (sym e ∙ z x));
   }
 
-  pub apart-start : (labels : List ℕ) → Apart N labels 1
-  apart-start labels = record { differ = λ g h b c p r. absurd (omega (arith, (hv-in N d g p).0)) }
+  pub apart-start : Apart N labels 1
+  apart-start = record { differ = λ g h b c p r. absurd (omega (arith, (hv-there g p).0)) }
 
-  module _ {labels : List ℕ} (L : Labelled N (length N.lines) labels) where
-    -- a station has a place in the labels, and its label a mark
-    pub label-there : (s : ℕ) → 1 ≤ s → s ≤ length N.stations → (1 ≤ s) × (s ≤ 512) × (label_of labels s ≤ 512)
-    label-there s a b = (a, omega (arith, few-stations d), omega (arith, L.low s a b, few-stations d))
+  -- a label marked before: two HV stations are joined
+  pub marked-joined : {s x : ℕ} {marks : List Bool} → Marked N labels s marks → x ≡ label_of labels s → is_hv N s ≡ true → get_or marks x false ≡ true → true ≡ some_joined N
+  marked-joined {s} {x} k e p r = ∥∥₁_elim m (Coded-set coded_bool _ _) (λ q.
+      let t = k.back x r in
+      sym ((labelled-joined N q.read labels q.labelled).1 (t.0, s, t.2, p, (λ p. omega (arith, p, t.1)), t.3 ∙ e)))
 
-    -- a label marked before: two HV stations are joined
-    pub marked-joined : {s x : ℕ} {marks : List Bool} → Marked N labels s marks → x ≡ label_of labels s → is_hv N s ≡ true → get_or marks x false ≡ true → true ≡ some_joined N
-    marked-joined {s} {x} m e q r =
-        let t = m.back x r in
-        sym ((labelled-joined N d labels L).1 (t.0, s, t.2, q, (λ p. omega (arith, p, t.1)), t.3 ∙ e))
+  pub apart-joined : {s : ℕ} → length N.stations < s → Apart N labels s → false ≡ some_joined N
+  apart-joined l a = go (some_joined N) refl
+    where
+      never : (g h : ℕ) → is_hv N g ≡ true → is_hv N h ≡ true → g ≢ h → label_of labels g ≡ label_of labels h → Dec (g < h) → ⊥
+      never g h p q e t (yes b) = a.differ g h b (omega (arith, (hv-there h q).1)) p q t
+      never g h p q e t (no b) = a.differ h g (omega arith) (omega (arith, (hv-there g p).1)) q p (sym t)
 
-    pub apart-joined : {s : ℕ} → length N.stations < s → Apart N labels s → false ≡ some_joined N
-    apart-joined l a = go (some_joined N) refl
+      go : (b : Bool) → some_joined N ≡ b → false ≡ b
+      go true e = absurd (∥∥₁_elim m ⊥_prop (λ q. let j = (labelled-joined N q.read labels q.labelled).0 e in never j.0 j.1 j.2 j.3 j.4 j.5 (dec_lt j.0 j.1)))
+      go false e = refl
+
+  -- a station is supplied just where its label is marked
+  module _ {marks : List Bool} (k : Marked N labels (length N.stations + 1) marks) {s x : ℕ} (e : x ≡ label_of labels s) (l : StationThere N s) where
+    from-mark : get_or marks x false ≡ true → is_supplied N s ≡ true
+    from-mark r = ∥∥₁_elim m (Coded-set coded_bool _ _) (λ q. let t = k.back x r in (labelled-supplied N q.read labels q.labelled s l.low l.high).1 (t.0, t.2, sym (t.3 ∙ e)))
+
+    to-mark : is_supplied N s ≡ true → get_or marks x false ≡ true
+    to-mark r = ∥∥₁_elim m (Coded-set coded_bool _ _) (λ q.
+        let t = (labelled-supplied N q.read labels q.labelled s l.low l.high).0 r in
+        ap (λ n. get_or marks n false) (e ∙ t.2) ∙ k.on t.0 (omega (arith, (hv-there t.0 t.1).1)) t.1)
+
+    pub marked-is : get_or marks x false ≡ is_supplied N s
+    marked-is = go (get_or marks x false) refl (is_supplied N s) refl
       where
-        never : (g h : ℕ) → is_hv N g ≡ true → is_hv N h ≡ true → g ≢ h → label_of labels g ≡ label_of labels h → Dec (g < h) → ⊥
-        never g h p q e t (yes b) = a.differ g h b (omega (arith, (hv-in N d h q).1)) p q t
-        never g h p q e t (no b) = a.differ h g (omega arith) (omega (arith, (hv-in N d g p).1)) q p (sym t)
-
-        go : (b : Bool) → some_joined N ≡ b → false ≡ b
-        go true e = let j = (labelled-joined N d labels L).0 e in absurd (never j.0 j.1 j.2 j.3 j.4 j.5 (dec_lt j.0 j.1))
-        go false e = refl
-
-    -- a station is supplied just where its label is marked
-    module _ {marks : List Bool} (m : Marked N labels (length N.stations + 1) marks) {s x : ℕ} (e : x ≡ label_of labels s) (a : 1 ≤ s) (b : s ≤ length N.stations) where
-      pub marked-is : get_or marks x false ≡ is_supplied N s
-      marked-is = go (is_supplied N s) refl (get_or marks x false) refl
-        where
-          go : (b : Bool) → is_supplied N s ≡ b → (m' : Bool) → get_or marks x false ≡ m' → m' ≡ b
-          go true q true r = refl
-          go false q false r = refl
-          go false q true r = let t = m.back x r in absurd (true≢false (sym ((labelled-supplied N d labels L s a b).1 (t.0, t.2, sym (t.3 ∙ e))) ∙ q))
-          go true q false r =
-              let t = (labelled-supplied N d labels L s a b).0 q in
-              absurd (true≢false (sym (m.on t.0 (omega (arith, (hv-in N d t.0 t.1).1)) t.1) ∙ sym (ap (λ n. get_or marks n false) (e ∙ t.2)) ∙ r))
+        go : (a : Bool) → get_or marks x false ≡ a → (b : Bool) → is_supplied N s ≡ b → a ≡ b
+        go true r b q = sym (from-mark r) ∙ q
+        go false r true q = sym r ∙ to-mark q
+        go false r false q = refl

@@ -1,38 +1,20 @@
 -- The order of the places, and the rule of places.
-use mathlib.Core.Bool.{cond, and-eq-true_iff, and-false}
+use mathlib.Core.Bool.{and-eq-true_iff, and-false}
 use mathlib.Core.List.{map}
 use Prim.Native.Nat.{zero, suc}
 use native.Mathlib.Omega.{arith}
 use lib.ListN.{length-map}
 use lib.Seq.{get_or-append_seam}
 use borrow.Author.Tests.{ltb-true, lt-ltb, le-ltb}
-use Rattle.std.specs.Prelude.{◌≡◌, ℕ, ◌-◌, ◌≤◌, ◌<◌, Bool, true, false, ◌&&◌, ◌||◌, eqb, ltb, List, [], ◌∷◌, ◌++◌, length, get_or, None, Some, refl}
-use Rattle.std.specs.Ordering.{is_lt, is_some_and, nat_cmp, partial_ordering_then}
+use Rattle.std.specs.Prelude.{◌≡◌, ℕ, ◌-◌, ◌≤◌, ◌<◌, Bool, true, false, ◌&&◌, ◌||◌, eqb, ltb, List, [], ◌∷◌, ◌++◌, length, get_or, None, Some}
 use Rattle.std.specs.List.{slice_get}
-use Rattle.std.proofs.Common.{Less, Equal, Greater, ap, ap₂, sym, ◌∙◌}
+use Rattle.std.proofs.Common.{ap, sym, ◌∙◌}
 use Rattle.model.specs.Lists.{numbered}
 use Rattle.model.specs.Network.{Line, Place, no_line, no_place, state_at, comes_after, well_placed}
-use Rattle.network.specs.declared.Place.{Place as Held}
 use Rattle.network.specs.declared.Side.{Side}
 use Rattle.network.specs.declared.Side.TheVariants.{One, Two}
-use Rattle.network.specs.View.{side_number, place_of_held}
+use Rattle.network.specs.View.{side_number}
 use Rattle.reader.specs.Reading.{last_place}
-
-by_line : (p q r s : Bool) → is_some_and is_lt (partial_ordering_then (Some (cond p Less (cond q Equal Greater))) (Some (cond r Less (cond s Equal Greater)))) ≡ (p || (q && r))
-by_line true q r s = refl
-by_line false true true s = refl
-by_line false true false true = refl
-by_line false true false false = refl
-by_line false false r s = refl
-
--- of two pairs of a line and an end, the lines decide, and then the ends
-pub pair-before : (b p : Held) (m n : ℕ) (r : Bool) → r ≡ is_some_and is_lt (partial_ordering_then (Some (nat_cmp b.line p.line)) (Some (nat_cmp m n)))
-    → m ≡ side_number b.side → n ≡ side_number p.side → r ≡ comes_after (place_of_held b) (place_of_held p)
-unfolding comes_after
-pair-before b p m n r e h k =
-    e
-    ∙ by_line (ltb b.line p.line) (eqb b.line p.line) (ltb m n) (eqb m n)
-    ∙ ap₂ (λ (i j : ℕ). ltb b.line p.line || (eqb b.line p.line && ltb i j)) h k
 
 -- ── the last place ──
 get_mapped : {A : Type 0} (f : A → Place) (xs : List A) (k : ℕ) (x : A) → slice_get xs k ≡ Some x → get_or (map f xs) k no_place ≡ f x

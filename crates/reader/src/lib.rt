@@ -14,7 +14,7 @@ use network::{End, Line, Network, PLACES, Place, Role, Side, State, Station};
 use ranges::Kind;
 use records::Records;
 
-// The role with a number.
+// The role with a number, 0 or 1. It asks for one of these, so it is no `From`; so does `state_of`.
 fn role_of(number: u64) -> Role
     requires { number ≤ 1 }
     ensures { role_number result ≡ number }
@@ -38,6 +38,7 @@ fn state_of(number: u64) -> State
 }
 
 // The head that the numbers of a record say.
+#[tactic(auto, unfolding(model::specs::Network::head_of))]
 fn head_of(row: &[u64]) -> Head
     requires { length row.now ≡ 8 }
     ensures { result ≡ head_of row.now }
@@ -55,6 +56,7 @@ fn head_of(row: &[u64]) -> Head
 }
 
 // The station that they say.
+#[tactic(auto, unfolding(model::specs::Network::station_of))]
 fn station_of(row: &[u64]) -> Station
     requires { (length row.now ≡ 2) × (value row.now 0 ≤ 1) }
     ensures { station_of_held result ≡ station_of row.now }
@@ -66,6 +68,7 @@ fn station_of(row: &[u64]) -> Station
 }
 
 // The line that they say.
+#[tactic(auto, unfolding(model::specs::Network::line_of))]
 fn line_of(row: &[u64]) -> Line
     requires { (length row.now ≡ 5) × (value row.now 3 ≤ 2) × (value row.now 4 ≤ 2) }
     ensures { line_of_held result ≡ line_of row.now }
@@ -80,6 +83,7 @@ fn line_of(row: &[u64]) -> Line
 }
 
 // The place that they say.
+#[tactic(auto, unfolding(model::specs::Network::place_of))]
 fn place_of(row: &[u64]) -> Place
     requires { (length row.now ≡ 4) × (1 ≤ value row.now 1) × (value row.now 1 ≤ 2) }
     ensures { place_of_held result ≡ place_of row.now }
@@ -93,10 +97,11 @@ fn place_of(row: &[u64]) -> Place
 }
 
 // Whether a place comes after another by line, then end.
+#[tactic(auto, unfolding(model::specs::Network::comes_after))]
 fn comes_after(before: &Place, place: &Place) -> bool
     ensures { result ≡ comes_after (place_of_held before.now) (place_of_held place.now) }
 {
-    (before.line, before.side.number()) < (place.line, place.side.number())
+    (before.line, before.side) < (place.line, place.side)
 }
 
 // Whether a place comes after all of a list, of which the last comes last.
@@ -152,7 +157,7 @@ fn read_stations(records: &mut Records, net: &mut Network) -> Result<(), Refusal
     Ok(())
 }
 
-// Reads the lines, as many as the head says. They have a loop of their own, since a helper with a closure would have to say of each closure
+// Reads the lines, as many as the head says. They have a loop of their own: a function of both would take a closure, and would have to say
 // what it may be called on and what it adds.
 fn read_lines(records: &mut Records, net: &mut Network) -> Result<(), Refusal>
     requires { (net.old.lines ≡ []) × (net.old.head.lines ≤ 768)
@@ -191,7 +196,7 @@ fn read_places(records: &mut Records, net: &mut Network) -> Result<(), Refusal>
     Ok(())
 }
 
-// Whether a file has too many bytes.
+// Whether a file has too many bytes. With `many_digits` of crate `fields` it shares only `<`: one function of both would be no plainer.
 fn too_long(bytes: usize) -> bool
     ensures { (result ≡ true → 32768 < bytes) × (result ≡ false → bytes ≤ 32768) }
 {

@@ -1,11 +1,12 @@
 // The records of a file, one after the other: their form, then the ranges of their numbers.
 #![tactic(auto)]
 
-ghost use Rattle.std.specs.Prelude.{◌≡◌, true, ◌+◌, ◌<◌, ◌^◌, ltb, eqb, length, IfOk, OnOk, OnSome, IfSome};
-ghost use Rattle.model.specs.Format.{records_of, fields_of, after_letter};
+ghost use Rattle.std.specs.Prelude.{◌≡◌, true, ◌+◌, ◌<◌, ◌^◌, eqb, length, IfOk, OnOk, OnSome, IfSome, MatchOption};
+ghost use Rattle.model.specs.Format.{newline, records_of, fields_of, after_letter};
 ghost use Rattle.model.specs.Network.{value};
 ghost use Rattle.model.specs.Ranges.{all_in_range};
 ghost use Rattle.ranges.specs.Kinds.{kind_of};
+ghost use Rattle.fields.specs.Fields.{up_to};
 ghost use Rattle.records.specs.Records.{first_closed, next_record, closed_says, read_says, numbers};
 
 use arrayvec::ArrayVec;
@@ -19,11 +20,12 @@ pub struct Records<'a> {
     number: u64,
 }
 
-// Whether a record is closed, which ends where the first newline would stand.
-fn is_closed(rest: &[u8], end: usize) -> bool
-    ensures { result ≡ ltb end (length rest.now) }
+// Where the newline stands that closes the next record, if it is closed.
+fn newline_at(rest: &[u8]) -> Option<usize>
+    ensures { MatchOption result (up_to newline rest.now ≡ length rest.now)
+        (λ at. (at ≡ up_to newline rest.now) × (at < length rest.now)) }
 {
-    end < rest.len()
+    fields::first_of(rest, b'\n')
 }
 
 // The numbers of a record, of which no kind has more than eight.
@@ -34,6 +36,7 @@ fn row_of(bytes: &[u8], kind: Kind) -> Option<Row>
     ensures numbers { numbers result ≡ after_letter (kind_of kind).letter (length (kind_of kind).ranges) (fields_of bytes.now) }
     ensures width { IfSome result (λ row. length row.items ≡ length (kind_of kind).ranges) }
 {
+    // `read_form` fills a row that has its length already: the zeros are that length
     let mut row = Row::from([0; 8]);
     row.truncate(kind.ranges().len());
     fields::read_form(bytes, kind.letter(), row.as_mut_slice())?;
@@ -85,10 +88,7 @@ impl<'a> Records<'a> {
         ensures goes_on { OnSome result ((self.new.number ≡ self.old.number + 1)
             × (length self.new.rest.now < length self.old.rest.now)) }
     {
-        let end = fields::part_end(self.rest, 0, b'\n');
-        if !is_closed(self.rest, end) {
-            return None;
-        }
+        let end = newline_at(self.rest)?;
         let bytes = &self.rest[..end];
         self.rest = &self.rest[end + 1..];
         self.number += 1;

@@ -2,7 +2,7 @@
 use Rattle.std.specs.Prelude.{None, Some}
 use Prim.Native.Nat.{ℕ, ◌≤◌, ◌<◌}
 use mathlib.Core.Path.{◌≡◌, refl, sym, ap, ◌∙◌}
-use mathlib.Core.Bool.{Bool, true, false, not, ◌&&◌, ◌||◌, true≢false}
+use mathlib.Core.Bool.{Bool, true, false, ◌&&◌, ◌||◌, true≢false}
 use mathlib.Core.Logic.{⊎_elim}
 use mathlib.Core.List.{List, [], ◌∷◌}
 use native.Mathlib.Decide.{ℕ_discrete}
@@ -18,6 +18,7 @@ use Rattle.savings.specs.First.{this}
 use Rattle.savings.specs.Breakers.{end_at}
 use Rattle.theory.specs.Best.{Accepted, place-closed}
 use Rattle.network.specs.There.{LineThere}
+use Rattle.network.specs.Found.{found}
 use Rattle.tree.specs.Outwards.{near_end, feeder}
 use Rattle.tree.specs.Linked.{LineHeld}
 use Rattle.tree.specs.Held.{near_in, feeder_in, HoldsTree}
@@ -27,7 +28,7 @@ use Rattle.sets.specs.Onward.{onward, onward-first, way-onward}
 use Rattle.sets.specs.Stops.{first_place}
 use Rattle.sets.proofs.Stops.{passes-stop}
 use Rattle.sets.specs.Apart.{place_ends, ends-apart}
-use Rattle.marks.specs.Held.{optional, place_on, HoldsPlaces}
+use Rattle.marks.specs.Held.{place_on, HoldsPlaces}
 use Rattle.marks.specs.declared.Marks.{Marks}
 use Rattle.paths.specs.Held.{first_in, first_beyond_in, HoldsFirsts}
 use Rattle.paths.specs.Meets.{path_beyond}
@@ -41,14 +42,6 @@ use Rattle.marks.proofs.PlaceOn.{Unplaced, Placed, place-or-none, listed-number,
 use Rattle.paths.proofs.Passing.{beyond-is, route-is, feeder-high, fed-none, fed-some}
 use Rattle.paths.proofs.FarEnds.{first-beyond}
 use Rattle.relations.proofs.Climbing.{from, from_is, Climb}
-
-pub not-true : (b : Bool) → not b ≡ true → b ≡ false
-not-true true h = absurd (true≢false (sym h))
-not-true false h = refl
-
-pub not-false : (b : Bool) → not b ≡ false → b ≡ true
-not-false true h = refl
-not-false false h = absurd (true≢false h)
 
 -- the path onward from an end of a path is shorter
 way-shorter : (up : End → List End) (q : End) (es : List End) → Way up es → has q es ≡ true → length (up q) < length es
@@ -119,10 +112,10 @@ module _ (N : Network) (a : Accepted N) where
     path-first = onward-first N e (near_end N l) (path_beyond N (feeder N l)) (route-is N a.read a.rules l line-there.low line-there.high)
 
     -- the place is on the far end
-    pub above-far : same_end e (near_in t l) ≡ false → first_in f l ≡ optional (place_above N p)
+    pub above-far : same_end e (near_in t l) ≡ false → first_in f l ≡ found (place_above N p)
     above-far d =
         h l line-there
-        ∙ ap (λ es. optional (place_on N (first_place (place_ends N) es)))
+        ∙ ap (λ es. found (place_on N (first_place (place_ends N) es)))
         (sym (path-first ∙ ap (λ b. this b (path_beyond N (feeder N l)) (near_end N l ∷ path_beyond N (feeder N l))) (other (same_end (near_end N l) e) refl) ∙ route-is N a.read a.rules l line-there.low line-there.high))
       where
         other : (b : Bool) → same_end (near_end N l) e ≡ b → b ≡ false
@@ -137,11 +130,11 @@ module _ (N : Network) (a : Accepted N) where
           ∙ ap (λ b. this b (path_beyond N (feeder N l)) (near_end N l ∷ path_beyond N (feeder N l)))
           (ap (λ x. same_end x e) (sym (same_end-eq e (near_in t l) d ∙ near-is)) ∙ same_end-refl e)
 
-      pub above-hv : feeder_in t l ≡ None → None ≡ optional (place_above N p)
+      pub above-hv : feeder_in t l ≡ None → None ≡ found (place_above N p)
       unfolding first_or
       above-hv z =
-          sym (ap (λ es. optional (place_on N (first_place (place_ends N) es))) (near-path ∙ ap (path_beyond N) (fed-none N l (sym (o.feeds l line-there) ∙ z)))
-          ∙ ap optional (no-end-unplaced N a.read).0)
+          sym (ap (λ es. found (place_on N (first_place (place_ends N) es))) (near-path ∙ ap (path_beyond N) (fed-none N l (sym (o.feeds l line-there) ∙ z)))
+          ∙ ap found (no-end-unplaced N a.read).0)
 
       module _ (k : ℕ) (z : feeder_in t l ≡ Some k) where
         fed : (feeder N l ≡ k) × (1 ≤ feeder N l)
@@ -153,10 +146,10 @@ module _ (N : Network) (a : Accepted N) where
         pub feeder-held : LineHeld k
         feeder-held = record { low = feeder-there.low; high = omega (arith, feeder-there.high, o.lines) }
 
-        pub above-fed : (places : Marks) → HoldsPlaces N places → first_beyond_in f t places k ≡ optional (place_above N p)
+        pub above-fed : (places : Marks) → HoldsPlaces N places → first_beyond_in f t places k ≡ found (place_above N p)
         above-fed places m =
             first-beyond N a.read a.rules t places f o m h k feeder-there
-            ∙ ap (λ es. optional (place_on N (first_place (place_ends N) es))) (beyond-is N k feeder-there.low ∙ sym (near-path ∙ ap (path_beyond N) fed.0))
+            ∙ ap (λ es. found (place_on N (first_place (place_ends N) es))) (beyond-is N k feeder-there.low ∙ sym (near-path ∙ ap (path_beyond N) fed.0))
 
   -- ── the relations ──
   pub relations-all : (r : Relations)

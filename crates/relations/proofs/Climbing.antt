@@ -1,6 +1,7 @@
 -- Relations of numbered places, noted by climbing from each place to those above it.
 use Rattle.std.specs.Prelude.{Option, None, Some}
 use Rattle.std.proofs.lemmas.Option.{none-some}
+use Rattle.network.specs.Found.{found}
 use Prim.Native.Nat.{ℕ, zero, suc, ◌+◌, ◌*◌, ◌≤◌, ◌<◌}
 use mathlib.Core.Path.{◌≡◌, refl, sym, ap, ◌∙◌}
 use mathlib.Core.Bool.{Bool, true, false, not, ◌&&◌, ◌||◌, true≢false}
@@ -12,7 +13,6 @@ use lib.Dec.{eqb, ltb}
 use lib.ListN.{length, get_or, set, length-set}
 use lib.Seq.{get_or-set_same, get_or-set_other}
 use borrow.Author.Tests.{eq-eqb, ne_eqb, lt-ltb, le-ltb, eqb-true}
-use Rattle.marks.specs.Held.{optional}
 use Rattle.relations.specs.declared.Relation.{Relation}
 use Rattle.relations.specs.declared.Relation.TheVariants.{Apart, Behind, Above}
 use Rattle.relations.specs.Lists.{relation_at}
@@ -23,11 +23,11 @@ abbrev pub number : Option ℕ → ℕ
 number None = 0
 number (Some a) = a
 
-pub number-is : (a : ℕ) → number (optional a) ≡ a
+pub number-is : (a : ℕ) → number (found a) ≡ a
 number-is zero = refl
 number-is (suc a) = refl
 
-pub some-low : (a : ℕ) → Some a ≡ optional a → 1 ≤ a
+pub some-low : (a : ℕ) → Some a ≡ found a → 1 ≤ a
 some-low zero h = absurd (none-some 0 (sym h))
 some-low (suc a) h = omega arith
 

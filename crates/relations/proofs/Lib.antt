@@ -1,3 +1,4 @@
 pub mod Climbing
 pub mod Above
 pub mod Listing
+pub mod Routed

@@ -8,6 +8,7 @@ use native.Mathlib.Nat.{eq-or-lt_of_le}
 use native.Mathlib.Omega.{arith}
 use lib.ListN.{length, get_or, length-append, length-map, get_or-append}
 use lib.Seq.{get_or-append_seam}
+use Rattle.std.proofs.lemmas.List.{map-append}
 use Rattle.relations.specs.declared.Relation.{Relation}
 use Rattle.relations.specs.declared.Relation.TheVariants.{Apart, Behind, Above}
 use Rattle.relations.specs.Lists.{is_related, relation_at, Listed}
@@ -87,13 +88,9 @@ rows_more between rows count q row e x old r a b = ⊎_elim
     (λ h. subst (Listed between r (count + 1)) (sym (get_or-append rows (row ∷ []) [] (r - 1) (omega arith))) (old r a h))
     (eq-or-lt_of_le {n = r} {m = q} (omega arith))
 
-map-push : {A B : Type 0} (f : A → B) (xs : List A) (x : A) → map f (xs ++ (x ∷ [])) ≡ map f xs ++ (f x ∷ [])
-map-push f [] x = refl
-map-push f (y ∷ xs) x = ap (λ ys. f y ∷ ys) (map-push f xs x)
-
 -- one list more, of lists that are kept as values of A
 pub rows_next : {A : Type 0} (f : A → List ℕ) (between : List Relation) (xs ys : List A) (x : A) (count q : ℕ) → ys ≡ xs ++ (x ∷ []) → length xs + 1 ≡ q → Listed between q (count + 1) (f x)
     → Rows between (map f xs) count q → Rows between (map f ys) count (q + 1)
 rows_next f between xs ys x count q e l h old =
-    subst (λ rows. Rows between rows count (q + 1)) (sym (ap (map f) e ∙ map-push f xs x))
+    subst (λ rows. Rows between rows count (q + 1)) (sym (ap (map f) e ∙ map-append f xs (x ∷ [])))
     (rows_more between (map f xs) count q (f x) (omega (arith, length-map xs f)) h old)

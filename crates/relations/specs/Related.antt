@@ -6,20 +6,22 @@ use Rattle.theory.specs.Best.{Accepted}
 use Rattle.sets.specs.Ways.{has}
 use Rattle.sets.specs.Onward.{onward}
 use Rattle.tree.specs.Held.{HoldsTree}
+use Rattle.tree.specs.declared.Tree.{Tree}
 use Rattle.marks.specs.Held.{HoldsPlaces}
+use Rattle.marks.specs.declared.Marks.{Marks}
 use Rattle.paths.specs.Held.{HoldsFirsts}
+use Rattle.paths.specs.declared.Firsts.{Firsts}
 use Rattle.relations.specs.declared.Relation.{Relation}
 use Rattle.relations.specs.declared.Relation.TheVariants.{Apart, Behind, Above}
 use Rattle.relations.specs.declared.Relations.{Relations}
-use Rattle.relations.specs.declared.Routes.{Routes}
 use Rattle.relations.specs.Lists.{relation_at, Listed}
 
 -- the tree, the places and the first places are those of an accepted network
-pub record HoldsRoutes (r : Routes) : Type 0 where
-  pub accepted : Accepted r.net.now
-  pub tree : HoldsTree r.net.now r.tree.now
-  pub places : HoldsPlaces r.net.now r.places.now
-  pub firsts : HoldsFirsts r.net.now r.firsts.now
+pub record HoldsRoutes (N : Network) (t : Tree) (m : Marks) (f : Firsts) : Type 0 where
+  pub accepted : Accepted N
+  pub tree : HoldsTree N t
+  pub places : HoldsPlaces N m
+  pub firsts : HoldsFirsts N f
 
 -- how place p stands to place q
 unfoldable pub relation : Network → ℕ → ℕ → Relation

@@ -4,9 +4,9 @@
 ghost use Rattle.std.specs.Prelude.{ℕ, ◌≡◌, ◌+◌, ◌≤◌, not, length};
 ghost use Rattle.model.specs.Paths.{same_end};
 ghost use Rattle.network.specs.There.{PlaceThere};
+ghost use Rattle.network.specs.Found.{found};
 ghost use Rattle.tree.specs.Linked.{LineHeld};
 ghost use Rattle.tree.specs.Held.{near_in};
-ghost use Rattle.marks.specs.Held.{optional};
 ghost use Rattle.relations.specs.declared.Relation.TheVariants.{Apart};
 ghost use Rattle.relations.specs.Related.{HoldsRoutes, HoldsRelations, between_in, later_in, row_count};
 ghost use Rattle.relations.specs.Lists.{is_related, Listed};
@@ -37,14 +37,15 @@ impl Relation {
     }
 }
 
-// What says which places a path to the HV station meets: the network, its tree, the places on the ends of its lines, and the first
-// place on the path of each line.
+// What says which places a path to the HV station meets: an accepted network, its tree, the places on the ends of its lines, and the
+// first place on the path of each line.
 #[derive(Clone, Copy)]
 pub struct Routes<'a> {
     pub net: &'a Network,
     pub tree: &'a Tree,
     pub places: &'a Marks,
     pub firsts: &'a Firsts,
+    ghost held: { ∥ HoldsRoutes net.now tree.now places.now firsts.now ∥₁ },
 }
 
 impl<'a> Routes<'a> {
@@ -58,8 +59,8 @@ impl<'a> Routes<'a> {
 
     // The next place above a place, the first that the path onward from it meets.
     fn above(&self, place: usize) -> Option<usize>
-        requires { HoldsRoutes self.now × PlaceThere self.now.net.now place }
-        ensures { result ≡ optional (place_above self.now.net.now place) }
+        requires { PlaceThere self.now.net.now place }
+        ensures { result ≡ found (place_above self.now.net.now place) }
     {
         let end = self.net.place_end(place);
         if self.is_far(end) {
@@ -72,8 +73,10 @@ impl<'a> Routes<'a> {
 
 // How each place stands to each other, and which later places each is related to. Row `q` of `between`, 65 long, has at `p` how place
 // `p` stands to place `q`; row `q - 1` of `later` has the places that place `q` is related to.
+// That they are a network's (`HoldsRelations`) stands in the clauses, since they are filled in where they lie.
 #[derive(Drop)]
 pub struct Relations {
+    // in one array: as an array of rows it was tried, and the check has no rule for making a struct with such rows of an enum
     between: [Relation; 4225],
     later: ArrayVec<ArrayVec<usize, 64>, 64>,
 }
@@ -108,10 +111,11 @@ impl Relations {
 
     // The relations between a place and those above it.
     fn climb(&mut self, routes: &Routes, place: usize)
-        requires { HoldsRoutes routes.now × PlaceThere routes.now.net.now place }
+        requires { PlaceThere routes.now.net.now place }
         ensures { Noted (length routes.now.net.now.places) (λ q. is_above routes.now.net.now q place)
             place self.old.between self.new.between }
     {
+        // not by `successors`, whose end the types don't know: that a path ends is the proof of this loop
         let mut next = routes.above(place);
         while let Some(above) = next {
             self.between[above * 65 + place] = Relation::Behind;
@@ -136,7 +140,6 @@ impl Relations {
 
     // How the places of a network stand to each other.
     pub fn relate(&mut self, routes: &Routes)
-        requires { HoldsRoutes routes.now }
         ensures { HoldsRelations routes.now.net.now self.new }
     {
         let count = routes.net.place_count();

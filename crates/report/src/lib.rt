@@ -1,4 +1,5 @@
-// The report of a network: its totals, the impact of a fault on each line, and the breakers that the search found.
+// The report of a network: its totals, the impact of a fault on each line, and the breakers that the search found. Each function
+// writes into the buffer that C lends and answers how much, as those of crate `text` do, and for their reason.
 #![tactic(auto)]
 
 ghost use Rattle.std.specs.Prelude.{◌≡◌, ◌≤◌, length};
@@ -59,7 +60,7 @@ fn put_faults(net: &Network, impacts: &Impacts, buf: &mut [u8]) -> usize
 fn finished_number(spent: bool) -> u64
     ensures { result ≡ finished_number spent }
 {
-    if spent { 0 } else { 1 }
+    u64::from(!spent)
 }
 
 // The C line of a plan, with its total or another number; answers its length.

@@ -4,7 +4,7 @@
 use lookups::{LineSet, is_hv, joined_by};
 use network::Network;
 
-// How many ends of some lines are at each station.
+// How many ends of some lines are at each station, of which there are at most 512: fixed memory, without a heap.
 #[derive(Clone, Copy)]
 struct Ends {
     counts: [usize; 512],
@@ -57,6 +57,7 @@ fn without_tips<F: Fn(usize) -> bool>(network: &Network, last: usize, is_kept: F
     requires { F.IsAlwaysCallable is_kept }
 {
     let mut lines = joining_lines(network, last);
+    // each round but the last takes a line away
     for _ in 0..768 {
         let ends = Ends::of(network, &lines);
         let is_tip = |station| ends.is_tip(station) && !is_kept(station);

@@ -143,6 +143,10 @@ module _ {w : Walk} {at : Current} {from left : ℕ} {old : Course} (x : Extendi
     row-there : last ≤ row_count R
     row-there = omega (arith, last-is, chosen.high, x.tables.related.rows)
 
+  -- what leaving the set asks for
+  pub leaving : {pending : Option ℕ} {course : Course} → Keeps w at old S pending course → walking.Leaving w.tables at.last pending course
+  leaving k last e f = ⊎_elim (λ s. absurd (none-member (s.0 ∙ e) f)) (λ s. (omega (arith, ap length k.members, s.1.few), low e, row-there e, row-of e)) k.state
+
   -- a state of the prospects
   module _ {pending : Option ℕ} {now : Prospects} (s : State N R S at.last old.prospects pending now) where
     is-pending : Pending N now.outlook S (number at.last) pending

@@ -7,6 +7,7 @@ use native.Mathlib.Omega.{arith}
 use lib.Dec.{leb}
 use lib.ListN.{length, length-append}
 use borrow.Author.Tests.{le-leb}
+use Rattle.std.proofs.Math.Bool.{and-true, and-false}
 use Rattle.std.specs.Prelude.{Option}
 use Rattle.model.specs.Lists.{sum}
 use Rattle.model.specs.Network.{Network}
@@ -33,14 +34,6 @@ use Rattle.prospects.proofs.Falling.{free}
 one_more : (f : ℕ → ℕ) (S : List ℕ) (q : ℕ) → sum (map f (S ++ (q ∷ []))) ≡ sum (map f S) + f q
 unfolding sum
 one_more f S q = omega (arith, sum-append f S (q ∷ []))
-
-and-false : (b : Bool) → (b && false) ≡ false
-and-false true = refl
-and-false false = refl
-
-and-true : (b : Bool) → (b && true) ≡ b
-and-true true = refl
-and-true false = refl
 
 module _ {N : Network} {relations : Relations} {outlook : Outlook} {S : List ℕ} {at : Current} {pending : Option ℕ} {q : ℕ} (x : Trying N relations outlook S at pending q) where
   abbrev T : List ℕ

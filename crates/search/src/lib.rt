@@ -1,6 +1,6 @@
 // The search: a walk over sets of places.
 // Where a function takes `pending`, that is the set's last member if the outlook of the course is still without it; there is none if
-// the outlook is the set's own, or the set is empty.
+// the outlook is the set's own, or the set is empty. It is no field of `Current`, which stays as it is while a set is extended.
 #![tactic(auto)]
 
 ghost use Rattle.std.specs.Prelude.{◌≡◌, true, false, ◌&&◌, [], ◌∷◌, ◌++◌, ◌+◌, ◌≤◌, leb, ltb, length};
@@ -94,9 +94,7 @@ fn copy_members(members: &[usize], copy: &mut ArrayVec<usize, 16>)
     ensures { copy.new.items ≡ members.now }
 {
     copy.clear();
-    for member in members {
-        copy.push(*member);
-    }
+    let _ = copy.try_extend_from_slice(members);
 }
 
 // Whether a set saves less than another.
@@ -115,7 +113,8 @@ fn within_means(net: &Network, cost: u64, hours: u64) -> bool
     cost <= head.money && hours <= head.hours
 }
 
-// The cost of the set with one more place.
+// The cost of the set with one more place. This and `hours_with` are one sum each: to add both at once would take a type of the two, with
+// `+` and its equations, for these two lines.
 fn cost_with(net: &Network, current: Current, place: usize) -> u64
     requires { PlaceThere net.now place × Read net.now × (current.cost ≤ net.now.head.money)
         × (current.hours ≤ net.now.head.hours) }
@@ -310,6 +309,7 @@ impl<'a> Walk<'a> {
         ensures { Left self.now.tables.net.now (extended self.now.tables.net.now left course.old.members.items from
             (found_in self.now.tables.net.now course.old.progress)) course.old course.new }
     {
+        // the next place depends on what the visits since have found, so no iterator gives it: one would have to lend out the course
         let mut pending = current.last;
         let mut next = self.next_place(course, current, pending, from, left);
         while let Some(place) = next {

@@ -1,9 +1,10 @@
 -- The rows of a segment table in a buffer are those of its definition.
-use Prim.Native.Nat.{ℕ, ◌+◌, ◌*◌}
+use Prim.Native.Nat.{ℕ, zero, suc, ◌+◌, ◌*◌, ◌<◌}
 use mathlib.Core.Path.{◌≡◌, refl, sym, ap, ap₂, ◌∙◌}
 use mathlib.Core.List.{List, [], ◌∷◌, ◌++◌, append_assoc, flat_map}
 use native.Mathlib.Omega.{arith}
-use lib.ListN.{length, take, drop, length-append}
+use lib.ListN.{length, get_or, take, drop}
+use Rattle.std.specs.Simd.{first_chunks}
 use lib.Seq.{take_at, drop_at, drop-drop}
 use Rattle.model.specs.Lists.{numbers}
 use Rattle.model.specs.Network.{Network}
@@ -14,11 +15,6 @@ use Rattle.segment_rows.specs.Rows.{entry_row, entry_rows, table_text}
 
 -- rows of five numbers, one behind another
 module _ {A : Type 0} (row : A → List ℕ) (five : (x : A) → length (row x) ≡ 5) where
-  pub fives : (xs : List A) → length (flat_map row xs) ≡ 5 * length xs
-  unfolding flat_map
-  fives [] = refl
-  fives (x ∷ xs) = omega (arith, length-append (row x) (flat_map row xs), five x, fives xs)
-
   rows-from : (table rest : List ℕ) (k : ℕ) (xs : List A) → drop (5 * k) table ≡ flat_map row xs ++ rest
       → flat_map (λ i. entry_row table i) (numbers k (length xs)) ≡ flat_map (λ x. printed_line 84 (row x)) xs
   unfolding flat_map numbers entry_row
@@ -32,10 +28,6 @@ module _ {A : Type 0} (row : A → List ℕ) (five : (x : A) → length (row x) 
       ap₂ (λ (s t : List ℕ). printed_line 84 s ++ t) here (rows-from table rest (k + 1) xs next)
 
 module _ (N : Network) where
-  pub table-length : length (segment_table N) ≡ 5 * length (breaker_ends N)
-  unfolding segment_table segment
-  table-length = fives (λ e. segment N e) (λ e. refl) (breaker_ends N)
-
   pub table-rows : (n : ℕ) (table rest : List ℕ) → n ≡ length (breaker_ends N) → table ≡ segment_table N ++ rest → table_text n table ≡ segments_text N
   unfolding table_text entry_rows segments_text segment_table segment
   table-rows n table rest e t =
@@ -45,3 +37,11 @@ module _ (N : Network) where
 pub table_is : (n : ℕ) (table : List ℕ) → printed_line 71 (n ∷ []) ++ entry_rows n table ≡ table_text n table
 unfolding table_text
 table_is n table = refl
+
+-- row i of the first n rows of five numbers that a table is cut into
+pub chunk-is : (n k i : ℕ) (xs other : List ℕ) → i < n → i < k → get_or (take n (first_chunks 5 k xs)) i other ≡ take 5 (drop (5 * i) xs)
+chunk-is zero k i xs other h l = absurd (omega arith)
+chunk-is (suc n) zero i xs other h l = absurd (omega arith)
+chunk-is (suc n) (suc k) zero xs other h l = refl
+chunk-is (suc n) (suc k) (suc i) xs other h l =
+    chunk-is n k i (drop 5 xs) other (omega arith) (omega arith) ∙ ap (take 5) (drop-drop (5 * i) 5 xs ∙ ap (λ (m : ℕ). drop m xs) {x = 5 + 5 * i} {y = 5 * suc i} (omega arith))

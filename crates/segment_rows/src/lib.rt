@@ -1,19 +1,10 @@
-// The segment table as rows of text.
+// The segment table as rows of text, at the start of a lent buffer, as crate `text` writes them, and for its reason. The table is the
+// whole that the call was lent, of which it filled so many entries.
 #![tactic(auto)]
 
 ghost use Rattle.std.specs.Prelude.{◌+◌, ◌*◌, ◌≤◌, length};
 ghost use Rattle.text.specs.Over.{Written};
-ghost use Rattle.segment_rows.specs.Rows.{entry_row, entry_rows, table_text};
-
-// The T row of an entry of a segment table, counted from 0; answers its length.
-fn put_entry(table: &[u64], i: usize, out: &mut [u8]) -> usize
-    requires { (5 * i + 5 ≤ length table.now) × (107 ≤ length out.old) }
-    ensures { Written (entry_row table.now i) out.old out.new result × (result ≤ 107) }
-{
-    let from = 5 * i;
-    let to = from + 5;
-    text::put_line(out, b'T', &table[from..to])
-}
+ghost use Rattle.segment_rows.specs.Rows.{entry_rows, table_text};
 
 // The T rows of the first entries of a segment table; answers their length.
 fn put_entries(table: &[u64], entries: usize, out: &mut [u8]) -> usize
@@ -21,9 +12,10 @@ fn put_entries(table: &[u64], entries: usize, out: &mut [u8]) -> usize
     ensures { Written (entry_rows entries table.now) out.old out.new result
         × (result ≤ 107 * entries) }
 {
+    let (rows, _) = table.as_chunks::<5>();
     let mut at: usize = 0;
-    for i in 0..entries {
-        at = at + put_entry(table, i, &mut out[at..]);
+    for row in &rows[..entries] {
+        at += text::put_line(&mut out[at..], b'T', row);
     }
     at
 }

@@ -5,6 +5,8 @@ use mathlib.Core.Bool.{true, false}
 use mathlib.Core.List.{List, [], ◌∷◌}
 use native.Mathlib.Omega.{arith}
 use lib.ListN.{length, drop, set}
+use Rattle.std.specs.Coded.{le_prop, Coded-set, coded_ℕ}
+use Rattle.std.proofs.Math.Logic.{∥∥₁_elim}
 use Rattle.model.specs.Network.{Network}
 use Rattle.model.specs.Paths.{End, is_breaker}
 use Rattle.model.specs.Outage.{customers_behind}
@@ -27,17 +29,22 @@ five (a ∷ b ∷ c ∷ []) v w x y z h = absurd (omega arith)
 five (a ∷ b ∷ c ∷ d ∷ []) v w x y z h = absurd (omega arith)
 five (a ∷ b ∷ c ∷ d ∷ e ∷ rest) v w x y z h = refl
 
+-- an accepted network has few lines
+pub few-lines : {N : Network} {b : Behind} {v : Weights} → ∥ Summed N b v ∥₁ → length N.lines ≤ 768
+few-lines {N} m = ∥∥₁_elim m le_prop (λ a. (read-sized N a.accepted.read).line_count)
+
 module _ (N : Network) (e : End) where
   -- an end that is no breaker has no entry
   pub entry-none : is_breaker N e ≡ false → entry_of N e ≡ []
   entry-none h = λ i. elim (h i) [ true ↦ segment N e | false ↦ [] ]
 
-  module _ (b : Behind) (v : Weights) (a : Summed N b v) (l : LineThere N e.line) (h : is_breaker N e ≡ true) (w c : ℕ) (p : w ≡ weight_in v e) (q : c ≡ customers_in b e.line) where
+  module _ (b : Behind) (v : Weights) (m : ∥ Summed N b v ∥₁) (l : LineThere N e.line) (h : is_breaker N e ≡ true) (w c : ℕ) (p : w ≡ weight_in v e) (q : c ≡ customers_in b e.line) where
     weight_is : w ≡ weight_tripped N e
-    weight_is = p ∙ a.tripped e h
+    weight_is = ∥∥₁_elim m (Coded-set coded_ℕ _ _) (λ a. p ∙ a.tripped e h)
 
     customers-is : c ≡ customers_behind N e
-    customers-is = q ∙ a.behind e.line l ∙ sym (behind-line N a.accepted.read a.accepted.rules e (breaker-closed N e h))
+    customers-is =
+        ∥∥₁_elim m (Coded-set coded_ℕ _ _) (λ a. q ∙ a.behind e.line l ∙ sym (behind-line N a.accepted.read a.accepted.rules e (breaker-closed N e h)))
 
     amount-is : w * c ≡ segment_amount N e
     unfolding segment_amount
@@ -45,9 +52,9 @@ module _ (N : Network) (e : End) where
 
     -- the product fits
     pub amount-fits : w * c < 2 ^ 64
-    amount-fits = omega (arith, amount-is, segment_amount-size N (read-sized N a.accepted.read) e)
+    amount-fits = ∥∥₁_elim m le_prop (λ a. omega (arith, amount-is, segment_amount-size N (read-sized N a.accepted.read) e))
 
     -- the entry of a breaker
-    pub entry-is : (line side : ℕ) → line ≡ e.line → side ≡ e.side → ◌≡◌ {A = List ℕ} (line ∷ side ∷ w ∷ c ∷ w * c ∷ []) (entry_of N e)
+    pub entry-is : ◌≡◌ {A = List ℕ} (e.line ∷ e.side ∷ w ∷ c ∷ w * c ∷ []) (entry_of N e)
     unfolding segment
-    entry-is line side m n = (λ i. m i ∷ n i ∷ weight_is i ∷ customers-is i ∷ amount-is i ∷ []) ∙ (λ i. elim (sym h i) [ true ↦ segment N e | false ↦ [] ])
+    entry-is = (λ i. e.line ∷ e.side ∷ weight_is i ∷ customers-is i ∷ amount-is i ∷ []) ∙ (λ i. elim (sym h i) [ true ↦ segment N e | false ↦ [] ])

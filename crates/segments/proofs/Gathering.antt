@@ -1,6 +1,6 @@
 -- The weights that each breaker trips for, noted line by line.
-use Prim.Native.Nat.{ℕ, ◌+◌, ◌-◌, ◌≤◌, ◌<◌}
-use mathlib.Core.Path.{◌≡◌, refl, sym, ap, ◌∙◌, subst}
+use Prim.Native.Nat.{ℕ, ◌+◌, ◌≤◌, ◌<◌}
+use mathlib.Core.Path.{◌≡◌, refl, sym, ap, ◌∙◌}
 use mathlib.Core.Bool.{Bool, true, false, true≢false}
 use mathlib.Core.List.{List}
 use native.Mathlib.Decide.{ℕ_discrete}
@@ -21,9 +21,8 @@ use Rattle.theory.specs.Radial.{Rules}
 use Rattle.theory.specs.Sizes.{read-sized}
 use Rattle.theory.specs.Gathering.{Gathered, gathered-more, gathered-small, gathered-whole}
 use Rattle.theory.specs.Behind.{kept-sum, side-of}
-use Rattle.theory.specs.Segments.{tripped-breaker}
-use Rattle.network.specs.There.{LineThere}
 use Rattle.tree.specs.Linked.{end_code}
+use Rattle.outage.proofs.Breakers.{trip-closed}
 use Rattle.segments.specs.declared.Weights.{Weights}
 use Rattle.segments.specs.Entries.{HoldsWeights}
 
@@ -68,14 +67,6 @@ module _ (N : Network) where
   noted_more weights l t w h n p q k = gathered-more breaker_code (weight_of N) (length N.lines + 1) weights l t _ p (ap (λ v. get_or weights t 0 + v) q) n (omega arith) k
 
   module _ (d : Read N) where
-    module _ (r : Rules N) (l : ℕ) (i : LineThere N l) where
-      trip-closed : is_open N (tripped N l) ≡ false
-      trip-closed = breaker-closed N (tripped N l) (tripped-breaker N d r l i.low i.high)
-
-      -- the breaker that trips is on a line
-      pub trip-there : (e : End) → e ≡ tripped N l → LineThere N e.line
-      trip-there e p = let x = closed-end N (tripped N l) trip-closed in subst (λ f. LineThere N f.line) (sym p) (record { low = x.0; high = x.1 })
-
     -- the noted weight of the next line's breaker, with that line
     pub noted-fits : (weights : List ℕ) (l t : ℕ) → l ≤ length N.lines → t ≡ end_code (tripped N l) → Noted weights l → get_or weights t 0 + weight_of N l ≤ 768000000
     noted-fits weights l t h p k =
@@ -94,5 +85,5 @@ module _ (N : Network) where
         ∙ sum-ext (λ l. on (eqb (end_code (tripped N l)) (end_code e)) (weight_of N l)) (λ l. on (same_end (tripped N l) e) (weight_of N l)) (numbers 1 (length N.lines))
         (λ l m.
         let i = numbers-in l 1 (length N.lines) m in
-        ap (λ x. on x (weight_of N l)) (code-test N (tripped N l) e (trip-closed r l (record { low = i.0; high = omega (arith, i.1) })) (breaker-closed N e b)))
+        ap (λ x. on x (weight_of N l)) (code-test N (tripped N l) e (trip-closed N d r l (record { low = i.0; high = omega (arith, i.1) })) (breaker-closed N e b)))
         ∙ sym (kept-sum (weight_of N) (λ l. same_end (tripped N l) e) (numbers 1 (length N.lines)))

@@ -1,10 +1,8 @@
--- The segment table line by line, and how many numbers it has.
-use Prim.Native.Nat.{ℕ, ◌*◌}
+-- The segment table line by line.
+use Prim.Native.Nat.{ℕ}
 use mathlib.Core.Path.{◌≡◌, refl, ap}
 use mathlib.Core.Bool.{Bool, true, false}
 use mathlib.Core.List.{List, [], ◌∷◌, ◌++◌, flat_map}
-use native.Mathlib.Omega.{arith}
-use lib.ListN.{length}
 use Rattle.model.specs.Lists.{keep}
 use Rattle.model.specs.Network.{Network}
 use Rattle.model.specs.Paths.{End, end1, end2, line_numbers, is_breaker}
@@ -37,12 +35,3 @@ module _ (N : Network) where
   pub table-lines : flat_map (λ l. entries_of N l) (line_numbers N) ≡ segment_table N
   unfolding segment_table breaker_ends ends_of
   table-lines = lines-table (line_numbers N)
-
-  entries-length : (es : List End) → length (flat_map (λ e. segment N e) es) ≡ 5 * length es
-  unfolding flat_map segment
-  entries-length [] = refl
-  entries-length (e ∷ es) = omega (arith, entries-length es)
-
-  pub table-length : length (segment_table N) ≡ 5 * length (breaker_ends N)
-  unfolding segment_table
-  table-length = entries-length (breaker_ends N)

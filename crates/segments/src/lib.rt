@@ -28,7 +28,7 @@ fn trip_code(paths: &Paths, line: usize) -> usize
     tree::code(trip)
 }
 
-// The weights of the lines that each breaker trips for, by the code of its end.
+// The weights of the lines that each breaker trips for, by the code of its end, at most 1,536: fixed memory, without a heap.
 #[derive(Drop)]
 struct Weights {
     by_code: [u64; 1537],
@@ -57,7 +57,7 @@ impl Weights {
     }
 }
 
-// Whether an end has an entry: every breaker has one, whatever it trips for.
+// Whether an end has an entry: every breaker has one, whatever it trips for. It is a word of this crate's own, apart from the states.
 fn has_entry(net: &Network, end: End) -> bool
     requires { LineThere net.now end.line }
     ensures { result ≡ is_breaker net.now end }
@@ -65,14 +65,14 @@ fn has_entry(net: &Network, end: End) -> bool
     net.is_breaker(end)
 }
 
-// An entry at the start of a table.
-fn put_entry(table: &mut [u64], line: u64, side: u64, weight: Weight, customers: Customers)
+// An entry at the start of a table. C reads the end's side from it as a number.
+fn put_entry(table: &mut [u64], end: End, weight: Weight, customers: Customers)
     requires { (5 ≤ length table.old) × (weight.0 * customers.0 < 2 ^ 64) }
     ensures { table.new
-        ≡ line ∷ side ∷ weight.0 ∷ customers.0 ∷ weight.0 * customers.0 ∷ drop 5 table.old }
+        ≡ end.line ∷ end.side ∷ weight.0 ∷ customers.0 ∷ weight.0 * customers.0 ∷ drop 5 table.old }
 {
-    table[0] = line;
-    table[1] = side;
+    table[0] = end.line as u64;
+    table[1] = end.side.number() as u64;
     table[2] = weight.0;
     table[3] = customers.0;
     table[4] = (weight * customers).into();
@@ -84,12 +84,13 @@ struct Entries<'a> {
     net: &'a Network,
     behind: &'a Behind,
     weights: &'a Weights,
+    ghost summed: { ∥ Summed net.now behind.now weights.now ∥₁ },
 }
 
 impl Entries<'_> {
     // The entry of an end, if it has one, at the start of a table; answers how many numbers it has.
     fn put_end(&self, end: End, table: &mut [u64]) -> usize
-        requires ready { Summed self.now.net.now self.now.behind.now self.now.weights.now × LineThere self.now.net.now end.line }
+        requires there { LineThere self.now.net.now end.line }
         requires room { 5 ≤ length table.old }
         ensures written { Written (entry_of self.now.net.now end) table.old table.new result }
         ensures short { result ≤ 5 }
@@ -97,13 +98,7 @@ impl Entries<'_> {
         if has_entry(self.net, end) {
             let weight = self.weights.at(end);
             let customers = Customers(self.behind.customers(end.line));
-            put_entry(
-                table,
-                end.line as u64,
-                end.side.number() as u64,
-                weight,
-                customers,
-            );
+            put_entry(table, end, weight, customers);
             return 5;
         }
         0
@@ -111,7 +106,7 @@ impl Entries<'_> {
 
     // The entries of a line's ends; answers how many numbers they have.
     fn put_ends(&self, line: usize, table: &mut [u64]) -> usize
-        requires ready { Summed self.now.net.now self.now.behind.now self.now.weights.now × LineThere self.now.net.now line }
+        requires there { LineThere self.now.net.now line }
         requires room { 10 ≤ length table.old }
         ensures written { Written (entries_of self.now.net.now line) table.old table.new result }
         ensures short { result ≤ 10 }
@@ -126,8 +121,7 @@ impl Entries<'_> {
 
     // The entries of all lines, one behind another; answers how many there are.
     fn put_lines(&self, table: &mut [u64]) -> usize
-        requires ready { Summed self.now.net.now self.now.behind.now self.now.weights.now }
-        requires room { 7680 ≤ length table.old }
+        requires { 7680 ≤ length table.old }
         ensures count { result ≡ length (breaker_ends self.now.net.now) }
         ensures written { table.new ≡ over (segment_table self.now.net.now) table.old }
     {

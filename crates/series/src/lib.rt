@@ -1,5 +1,6 @@
 // The breakers in series: those on the path of the station that a line feeds, the most on a path from an HV station, and the series
-// rule, rule 9.
+// rule, rule 9. The rule is asked before a file is known to be accepted, so that no loaded file is at hand whose type would say what the
+// clauses ask for.
 #![tactic(auto)]
 
 ghost use Rattle.std.specs.Prelude.{◌≡◌};

@@ -10,12 +10,13 @@ use Rattle.model.specs.Paths.{is_open}
 use Rattle.theory.specs.Behind.{far}
 use Rattle.theory.specs.Best.{Accepted}
 use Rattle.network.specs.There.{LineThere}
+use Rattle.network.specs.Found.{found}
 use Rattle.tree.specs.Linked.{LineHeld}
 use Rattle.tree.specs.Held.{near_in, HoldsTree}
 use Rattle.tree.specs.declared.Tree.{Tree}
 use Rattle.sets.specs.Stops.{first_place}
 use Rattle.sets.specs.Apart.{place_ends}
-use Rattle.marks.specs.Held.{optional, place_on, HoldsPlaces}
+use Rattle.marks.specs.Held.{place_on, HoldsPlaces}
 use Rattle.marks.specs.declared.Marks.{Marks}
 use Rattle.paths.specs.Held.{first_beyond_in, HoldsFirsts}
 use Rattle.paths.specs.declared.Firsts.{Firsts}
@@ -43,9 +44,9 @@ module _ (N : Network) (a : Accepted N) (l : ℕ) where
     by_state : (c : Bool) → is_open N (far (near_in t l)) ≡ c → far_place N l ≡ elim c as (λ _. ℕ) [ true ↦ 0 | false ↦ place ]
     by_state c e = ap (λ c. elim c as (λ _. ℕ) [ true ↦ 0 | false ↦ place ]) (ap (λ e. is_open N (far e)) (sym (o.nears l u)) ∙ e)
 
-    pub place-open : is_open N (far (near_in t l)) ≡ true → None ≡ optional (far_place N l)
-    place-open s = ap optional (sym (by_state true s))
+    pub place-open : is_open N (far (near_in t l)) ≡ true → None ≡ found (far_place N l)
+    place-open s = ap found (sym (by_state true s))
 
     pub place-closed : (places : Marks) (firsts : Firsts) → HoldsPlaces N places → HoldsFirsts N firsts → is_open N (far (near_in t l)) ≡ false
-        → first_beyond_in firsts t places l ≡ optional (far_place N l)
-    place-closed places firsts m f s = first-beyond N a.read a.rules t places firsts o m f l u ∙ ap optional (sym (by_state false s))
+        → first_beyond_in firsts t places l ≡ found (far_place N l)
+    place-closed places firsts m f s = first-beyond N a.read a.rules t places firsts o m f l u ∙ ap found (sym (by_state false s))

@@ -15,7 +15,7 @@ use Rattle.graphs.specs.Sum.{on, sum_over, sum-ext}
 use Rattle.savings.specs.Breakers.{end_at}
 use Rattle.savings.specs.Totals.{breakers_with}
 use Rattle.theory.specs.Sizes.{numbers-length, read-sized}
-use Rattle.theory.specs.Gathering.{sum_from, sum_first, sum-none, sum-all, sum-up-to, on-up-to, zeros}
+use Rattle.theory.specs.Gathering.{sum_from, sum_first, sum-none, sum-all, sum-up-to, on-up-to, always}
 use Rattle.theory.specs.Best.{Accepted}
 use Rattle.sets.specs.Stops.{first_stop}
 use Rattle.sets.specs.Sets.{route, load, lines}
@@ -35,7 +35,7 @@ Weighed N end own l = (p : ℕ) → 1 ≤ p → get_or own p 0 + sum_from (λ k.
 
 -- nothing yet
 pub weighed-none : (N : Network) (end n : ℕ) → Weighed N end (replicate n 0) 1
-weighed-none N end n p i = omega (arith, zeros n p)
+weighed-none N end n p i = omega (arith, always {A = ℕ} 0 n p)
 
 module _ (N : Network) (end : ℕ) (own : List ℕ) (l : ℕ) (b : l < end) (g : Weighed N end own l) where
   -- a line that stops at a breaker

@@ -1,7 +1,5 @@
 -- The place on an end.
-use Rattle.std.specs.Prelude.{None, Some}
-use Rattle.std.proofs.lemmas.Option.{none-some, same_Some}
-use Prim.Native.Nat.{ℕ, zero, suc, ◌≤◌}
+use Prim.Native.Nat.{ℕ, ◌≤◌}
 use mathlib.Core.Path.{◌≡◌, refl, sym, ap, ◌∙◌}
 use mathlib.Core.Bool.{Bool, true, false, ◌||◌, true≢false}
 use mathlib.Core.Logic.{◌⊎◌, inl, inr, ⊎_elim}
@@ -21,16 +19,7 @@ use Rattle.theory.specs.Ends.{any-in, in-numbers, numbers-in}
 use Rattle.theory.specs.Best.{Accepted}
 use Rattle.sets.specs.Ways.{has}
 use Rattle.sets.specs.Apart.{place_ends, ends-apart}
-use Rattle.marks.specs.Held.{optional, place_on}
-
--- a number that may be none
-pub none-number : (n : ℕ) → optional n ≡ None → n ≡ 0
-none-number zero h = refl
-none-number (suc n) h = absurd (none-some (suc n) (sym h))
-
-pub some-number : (n k : ℕ) → optional n ≡ Some k → (n ≡ k) × (1 ≤ n)
-some-number zero k h = absurd (none-some k h)
-some-number (suc n) k h = (same_Some (suc n) k h, omega arith)
+use Rattle.marks.specs.Held.{place_on}
 
 -- the first element that passes a test is one that does, if any does
 pub first-cases : {A : Type 0} (other : A) (test : A → Bool) (xs : List A)

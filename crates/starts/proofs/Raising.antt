@@ -19,11 +19,13 @@ use Rattle.sets.specs.Stops.{first_place}
 use Rattle.sets.specs.Sets.{route}
 use Rattle.sets.specs.Apart.{place_ends}
 use Rattle.sets.specs.Start.{own_in_series_at}
-use Rattle.marks.specs.Held.{optional, place_on}
+use Rattle.marks.specs.Held.{place_on}
 use Rattle.paths.specs.Meets.{far_route}
-use Rattle.starts.specs.Own.{far_place, raised}
+use Rattle.starts.specs.Own.{far_place}
+use Rattle.starts.specs.Held.{raised}
 use Rattle.starts.proofs.Numbers.{most_from, most-first, most-none, most-all}
-use Rattle.theory.specs.Gathering.{zeros}
+use Rattle.theory.specs.Gathering.{always}
+use Rattle.network.specs.Found.{found}
 use Rattle.starts.proofs.FirstPlaces.{own_of, own-in-series}
 
 -- the largest value of all
@@ -43,18 +45,18 @@ raised_at in-series k v x p h e = go (ℕ_discrete p k)
     go (no q) = omega (arith, get_or-set_other in-series k p x 0 q, ap (λ b. on b v) (ne_eqb k p (λ e. q (sym e))))
 
 -- the number of a place that there may be is raised to a value
-pub raised-is : (in-series : List ℕ) (k v p : ℕ) → k < length in-series → 1 ≤ p → get_or (raised in-series (optional k) v) p 0 ≡ max (get_or in-series p 0) (on (eqb k p) v)
+pub raised-is : (in-series : List ℕ) (k v p : ℕ) → k < length in-series → 1 ≤ p → get_or (raised in-series (found k) v) p 0 ≡ max (get_or in-series p 0) (on (eqb k p) v)
 raised-is in-series zero v p h i = omega (arith, ap (λ b. on b v) (ne_eqb 0 p (λ e. omega arith)))
 raised-is in-series (suc k) v p h i = raised_at in-series (suc k) v _ p h refl
 
 module _ (N : Network) where
   pub raised-none : (end n : ℕ) → Raised N end (replicate n 0) 1
-  raised-none end n p i = omega (arith, zeros n p)
+  raised-none end n p i = omega (arith, always {A = ℕ} 0 n p)
 
   -- one line more, and the station that it feeds
   pub raised-more : (end : ℕ) (in-series next : List ℕ) (l j k m n : ℕ) → l < end → j < length in-series → k < length next
       → j ≡ place_on N (first_place (place_ends N) (route N l)) → m ≡ breakers_on N (route N l) → k ≡ far_place N l → n ≡ breakers_on N (far_route N l)
-      → next ≡ raised in-series (optional j) m → Raised N end in-series l → Raised N end (raised next (optional k) n) (l + 1)
+      → next ≡ raised in-series (found j) m → Raised N end in-series l → Raised N end (raised next (found k) n) (l + 1)
   raised-more end in-series next l j k m n b hj hk ej em ek en ex g p i =
       let first : on (eqb j p) m ≡ on (eqb (place_on N (first_place (place_ends N) (route N l))) p) (breakers_on N (route N l)) = λ i. on (eqb (ej i) p) (em i) in
       let beyond : on (eqb k p) n ≡ on (eqb (far_place N l) p) (breakers_on N (far_route N l)) = λ i. on (eqb (ek i) p) (en i) in
@@ -80,6 +82,6 @@ module _ (N : Network) where
   )
 
 -- the place of an option that is at most 64
-pub few-some : (n : ℕ) → n ≤ 64 → IfSome (optional n) (λ p. p ≤ 64)
+pub few-some : (n : ℕ) → n ≤ 64 → IfSome (found n) (λ p. p ≤ 64)
 few-some zero h = tt
 few-some (suc n) h = h

@@ -19,19 +19,20 @@ use Rattle.savings.specs.Totals.{breakers_with}
 use Rattle.theory.specs.Ends.{in-numbers}
 use Rattle.theory.specs.Best.{Accepted}
 use Rattle.network.specs.There.{LineThere, PlaceThere}
+use Rattle.network.specs.Found.{found, none-found, some-found}
 use Rattle.sets.specs.Ways.{has, covers, covers-is, first_on}
 use Rattle.sets.specs.Onward.{onward}
 use Rattle.sets.specs.Stops.{first_place, first_stop, stop_is}
 use Rattle.sets.specs.Sets.{route, upstream_at, no-breaker, line-ways}
 use Rattle.sets.specs.Apart.{place_ends}
 use Rattle.sets.specs.Start.{place-free-of, no_place}
-use Rattle.marks.specs.Held.{optional, place_on}
+use Rattle.marks.specs.Held.{place_on}
 use Rattle.marks.proofs.PlaceOn.{Placed, place-or-none, no-end-unplaced, breaker-unplaced}
 use Rattle.paths.specs.Held.{trip_in, first_in, HoldsPaths, HoldsFirsts}
 use Rattle.paths.specs.declared.Paths.{Paths}
 use Rattle.paths.specs.declared.Firsts.{Firsts}
 use Rattle.starts.specs.Own.{stop_of}
-use Rattle.starts.proofs.OnEnds.{none-number, some-number, first-cases, on-most}
+use Rattle.starts.proofs.OnEnds.{first-cases, on-most}
 use Rattle.starts.proofs.UnderPlaces.{trip-upstream}
 
 module _ (N : Network) (a : Accepted N) (l : ℕ) (i : 1 ≤ l) (j : l ≤ length N.lines) where
@@ -83,13 +84,13 @@ module _ (N : Network) (a : Accepted N) (paths : Paths) (firsts : Firsts) (t : H
   abbrev start : End
   start = first_place (place_ends N) (route N l)
 
-  pub stop-without : first_in firsts l ≡ None → None ≡ optional (stop_of N l)
-  stop-without z = ap optional (stop-none N a l u.low u.high (none-number (place_on N start) (sym (f l u) ∙ z)))
+  pub stop-without : first_in firsts l ≡ None → None ≡ found (stop_of N l)
+  stop-without z = ap found (stop-none N a l u.low u.high (none-found (place_on N start) (sym (f l u) ∙ z)))
 
   -- the first place on the line's path
   module _ (p : ℕ) (z : first_in firsts l ≡ Some p) where
     is : (place_on N start ≡ p) × (1 ≤ place_on N start)
-    is = some-number (place_on N start) p (sym (f l u) ∙ z)
+    is = some-found (place_on N start) p (sym (f l u) ∙ z)
 
     placed : Placed N start
     placed = ⊎_elim (λ n. absurd (omega (arith, n.0, is.1))) (λ g. g) (place-or-none N start)
@@ -101,8 +102,8 @@ module _ (N : Network) (a : Accepted N) (paths : Paths) (firsts : Firsts) (t : H
     trips : same_end (trip_in paths l) (trip_in paths (place_at N p).line) ≡ same_end (tripped N l) (upstream_at N [] start)
     trips = λ i. same_end (t.trips l u i) ((trip-upstream N a p place-there paths t ∙ ap (λ d. upstream_at N [] d) (ap (end_at N) (sym is.0) ∙ placed.is)) i)
 
-    pub same-trip : same_end (trip_in paths l) (trip_in paths (place_at N p).line) ≡ true → Some p ≡ optional (stop_of N l)
-    same-trip q = sym z ∙ f l u ∙ ap optional (stop-place N a l u.low u.high placed (sym trips ∙ q))
+    pub same-trip : same_end (trip_in paths l) (trip_in paths (place_at N p).line) ≡ true → Some p ≡ found (stop_of N l)
+    same-trip q = sym z ∙ f l u ∙ ap found (stop-place N a l u.low u.high placed (sym trips ∙ q))
 
-    pub other-trip : same_end (trip_in paths l) (trip_in paths (place_at N p).line) ≡ false → None ≡ optional (stop_of N l)
-    other-trip q = ap optional (stop-breaker N a l u.low u.high placed (sym trips ∙ q))
+    pub other-trip : same_end (trip_in paths l) (trip_in paths (place_at N p).line) ≡ false → None ≡ found (stop_of N l)
+    other-trip q = ap found (stop-breaker N a l u.low u.high placed (sym trips ∙ q))

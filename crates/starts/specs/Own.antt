@@ -1,6 +1,6 @@
--- What is each place's own, with a number for each place: the weight of the lines whose path meets the place first, and
--- the most breakers on such a path of a line or a station. And of which places what is their own counts for a place.
-use Rattle.std.specs.Prelude.{ℕ, ◌≤◌, ◌≡◌, Bool, true, false, ◌||◌, max, Option, None, Some, List, [], eqb, length, get_or, set}
+-- Which lines and stations are a place's own: those whose path meets it first. And of which places what is their own counts for a
+-- place.
+use Rattle.std.specs.Prelude.{ℕ, Bool, true, false, ◌||◌, [], eqb}
 use Rattle.model.specs.Network.{Network}
 use Rattle.model.specs.Paths.{End, same_end, is_open}
 use Rattle.savings.specs.Breakers.{end_at}
@@ -10,7 +10,6 @@ use Rattle.tree.specs.Outwards.{near_end}
 use Rattle.sets.specs.Stops.{first_stop, first_place}
 use Rattle.sets.specs.Sets.{route, under_at}
 use Rattle.sets.specs.Apart.{place_ends}
-use Rattle.sets.specs.Start.{own_at, own_in_series_at}
 use Rattle.marks.specs.Held.{place_on}
 use Rattle.paths.specs.Meets.{far_route}
 use Rattle.relations.specs.declared.Relation.{Relation}
@@ -29,19 +28,6 @@ stop_of N l = place_on N (first_stop (breakers_with N []) (place_ends N) (route 
 -- the first place on the path of the station that a line feeds; 0 if it has none, or its far end is open
 abbrev pub far_place : Network → ℕ → ℕ
 far_place N l = elim (is_open N (far_end N l)) [ true ↦ 0 | false ↦ place_on N (first_place (place_ends N) (far_route N l)) ]
-
--- the weight of what meets each place first, of the breakers and places
-abbrev pub HoldsOwn : Network → List ℕ → Type 0
-HoldsOwn N own = (p : ℕ) → 1 ≤ p → p ≤ length N.places → get_or own p 0 ≡ own_at N (end_at N p)
-
--- the most breakers on a path that meets each place first, of the places
-abbrev pub HoldsOwnInSeries : Network → List ℕ → Type 0
-HoldsOwnInSeries N in-series = (p : ℕ) → 1 ≤ p → p ≤ length N.places → get_or in-series p 0 ≡ own_in_series_at N (end_at N p)
-
--- the numbers with that of a place, if there is one, raised to at least n
-abbrev pub raised : List ℕ → Option ℕ → ℕ → List ℕ
-raised numbers None n = numbers
-raised numbers (Some p) n = set numbers p (max (get_or numbers p 0) n)
 
 -- by the relations, place s is place p or behind it
 abbrev pub is_behind : Relation → Bool

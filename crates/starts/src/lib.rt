@@ -2,24 +2,24 @@
 // it.
 #![tactic(auto)]
 
-ghost use Rattle.std.specs.Prelude.{◌≡◌, ◌≢◌, ◌≤◌, ℕ, [], length, IfSome};
+ghost use Rattle.std.specs.Prelude.{◌≡◌, ◌≢◌, ◌≤◌, ◌<◌, ◌+◌, ◌^◌, ℕ, [], length, replicate, set, IfSome};
 ghost use Rattle.model.specs.Paths.{same_end};
 ghost use Rattle.savings.specs.Breakers.{end_at};
 ghost use Rattle.theory.specs.Best.{Accepted};
 ghost use Rattle.network.specs.There.{LineThere, PlaceThere};
+ghost use Rattle.network.specs.Found.{found};
 ghost use Rattle.tree.specs.Linked.{LineHeld};
-ghost use Rattle.marks.specs.Held.{optional};
 ghost use Rattle.paths.specs.Held.{trip_in, HoldsPaths};
-ghost use Rattle.relations.specs.Related.{HoldsRoutes, HoldsRelations};
+ghost use Rattle.relations.specs.Related.{HoldsRelations};
 ghost use Rattle.sets.specs.Sets.{upstream_at, weight_at, in_series_at};
-ghost use Rattle.starts.specs.Own.{stop_of, far_place, raised, HoldsOwn, HoldsOwnInSeries, is_behind, behind_in, counts_for};
+ghost use Rattle.starts.specs.Own.{stop_of, far_place, is_behind, behind_in, counts_for};
 
 use network::{End, Network, Side};
 use paths::Paths;
 use relations::{Relation, Relations, Routes};
 
-// What a breaker on a place would do: the breaker upstream of it, the weight of the lines that would trip it, and the most breakers
-// in series with it.
+// What a breaker on a place would do: the breaker upstream of it, which is the specification's end of line 0 where there is none, the
+// weight of the lines that would trip it, and the most breakers in series with it.
 #[derive(Clone, Copy, Debug, Default, PartialEq, Eq)]
 pub struct Prospect {
     pub upstream: End,
@@ -39,7 +39,8 @@ impl Prospect {
     };
 }
 
-// The prospect of each place. Places have the file's numbers, from 1.
+// The prospect of each place. Places have the file's numbers, from 1. That they are those of a set of a network's places
+// (`HoldsOutlook`) stands in the clauses: a walk changes them place by place, and in between they are of no set.
 #[derive(Drop)]
 pub struct Outlook {
     prospects: [Prospect; 65],
@@ -87,9 +88,8 @@ fn trip_together(paths: &Paths, a: usize, b: usize) -> bool
 // The place where a line's path first meets a breaker or a place, if that is no breaker: the first place on the path, if the breaker
 // upstream of it is the one that trips for the line.
 fn stop_of(routes: &Routes, paths: &Paths, line: usize) -> Option<usize>
-    requires { HoldsRoutes routes.now × HoldsPaths routes.now.net.now paths.now
-        × LineThere routes.now.net.now line }
-    ensures { result ≡ optional (stop_of routes.now.net.now line) }
+    requires { HoldsPaths routes.now.net.now paths.now × LineThere routes.now.net.now line }
+    ensures { result ≡ found (stop_of routes.now.net.now line) }
 {
     let place = routes.firsts.first(line)?;
     if trip_together(paths, line, routes.net.place_line(place)) {
@@ -99,51 +99,11 @@ fn stop_of(routes: &Routes, paths: &Paths, line: usize) -> Option<usize>
     }
 }
 
-// The weight of the lines whose path meets each place first, of the breakers and places.
-fn own_weights(routes: &Routes, paths: &Paths) -> [u64; 65]
-    requires { HoldsRoutes routes.now × HoldsPaths routes.now.net.now paths.now }
-    ensures { HoldsOwn routes.now.net.now result }
-{
-    let mut own = [0u64; 65];
-    for line in 1..routes.net.line_count() + 1 {
-        if let Some(place) = stop_of(routes, paths, line) {
-            own[place] += routes.net.weight(line);
-        }
-    }
-    own
-}
-
-// Raises the number of a place, if there is one, to at least so many.
-fn raise(numbers: &mut [u64; 65], place: Option<usize>, least: u64)
-    requires { IfSome place (λ p. p ≤ 64) }
-    ensures raised { numbers.new ≡ raised numbers.old place least }
-    ensures long { length numbers.new ≡ 65 }
-{
-    if let Some(place) = place {
-        numbers[place] = numbers[place].max(least);
-    }
-}
-
-// The most breakers on a path of a line or a station that meets each place first, of the places.
-fn own_in_series(routes: &Routes, paths: &Paths) -> [u64; 65]
-    requires { HoldsRoutes routes.now × HoldsPaths routes.now.net.now paths.now }
-    ensures { HoldsOwnInSeries routes.now.net.now result }
-{
-    let mut in_series = [0u64; 65];
-    for line in 1..routes.net.line_count() + 1 {
-        raise(&mut in_series, routes.firsts.first(line), paths.count(line));
-        let beyond = far_place(routes, line);
-        let count = series::count_beyond(routes.net, routes.tree, paths, line);
-        raise(&mut in_series, beyond, count);
-    }
-    in_series
-}
-
 // The first place on the path of the station that a line feeds: that on its far end, or else the first on the line's. There is none
 // if the far end is open.
 fn far_place(routes: &Routes, line: usize) -> Option<usize>
-    requires { HoldsRoutes routes.now × LineThere routes.now.net.now line }
-    ensures { result ≡ optional (far_place routes.now.net.now line) }
+    requires { LineThere routes.now.net.now line }
+    ensures { result ≡ found (far_place routes.now.net.now line) }
 {
     if routes.net.is_open(routes.tree.far(line)) {
         return None;
@@ -184,40 +144,109 @@ fn start_upstream(net: &Network, paths: &Paths, place: usize) -> End
     paths.trip(net.place_line(place))
 }
 
-// The weight of a place before any is chosen: what is its own, and what is that of the places under it.
-fn start_weight(
-    net: &Network,
-    paths: &Paths,
-    relations: &Relations,
-    own: &[u64; 65],
-    place: usize,
-) -> u64
-    requires places { Accepted net.now × HoldsPaths net.now paths.now × PlaceThere net.now place }
-    requires own { HoldsRelations net.now relations.now × HoldsOwn net.now own.now }
-    ensures { result ≡ weight_at net.now [] (end_at net.now place) }
-{
-    let mut weight: u64 = 0;
-    for s in 1..net.place_count() + 1 {
-        if under(net, paths, relations, place, s) {
-            weight += own[s];
-        }
-    }
-    weight
+// What is each place's own, a number for each: of the lines whose path meets the place first. Weights and breakers in series are both
+// gathered in it, each for a sum of its own.
+#[derive(Drop)]
+struct Own {
+    // for each of at most 64 places, from 1: fixed memory, without a heap
+    numbers: [u64; 65],
+    ghost long: { length numbers ≡ 65 },
 }
 
-// The most breakers in series with a place before any is chosen: the most of what is its own, or of a place behind it.
-fn start_in_series(net: &Network, relations: &Relations, own: &[u64; 65], place: usize) -> u64
-    requires { Accepted net.now × HoldsRelations net.now relations.now
-        × HoldsOwnInSeries net.now own.now × PlaceThere net.now place }
-    ensures { result ≡ in_series_at net.now [] (end_at net.now place) }
-{
-    let mut in_series: u64 = 0;
-    for s in 1..net.place_count() + 1 {
-        if behind(relations, place, s) {
-            in_series = in_series.max(own[s]);
+impl Own {
+    ghost use Rattle.starts.specs.Held.{own_in, raised, HoldsOwn, HoldsOwnInSeries};
+
+    // 0 for each place.
+    fn new() -> Own
+        ensures { result.numbers ≡ replicate 65 0 }
+    {
+        Own { numbers: [0; 65] }
+    }
+
+    // The number of a place.
+    fn of(&self, place: usize) -> u64
+        requires { place ≤ 64 }
+        ensures { result ≡ own_in self.now place }
+    {
+        self.numbers[place]
+    }
+
+    // Adds to the number of a place.
+    fn add(&mut self, place: usize, weight: u64)
+        requires { (place ≤ 64) × (own_in self.old place + weight < 2 ^ 64) }
+        ensures { self.new.numbers ≡ set self.old.numbers place (own_in self.old place + weight) }
+    {
+        self.numbers[place] += weight;
+    }
+
+    // Raises the number of a place, if there is one, to at least so many.
+    fn raise(&mut self, place: Option<usize>, least: u64)
+        requires { IfSome place (λ p. p ≤ 64) }
+        ensures { self.new.numbers ≡ raised self.old.numbers place least }
+    {
+        if let Some(place) = place {
+            self.numbers[place] = self.numbers[place].max(least);
         }
     }
-    in_series
+
+    // The weight of the lines whose path meets each place first, of the breakers and places.
+    fn weights(routes: &Routes, paths: &Paths) -> Own
+        requires { HoldsPaths routes.now.net.now paths.now }
+        ensures { HoldsOwn routes.now.net.now result }
+    {
+        let mut own = Own::new();
+        for line in 1..routes.net.line_count() + 1 {
+            if let Some(place) = stop_of(routes, paths, line) {
+                own.add(place, routes.net.weight(line));
+            }
+        }
+        own
+    }
+
+    // The most breakers on a path of a line or a station that meets each place first, of the places.
+    fn in_series(routes: &Routes, paths: &Paths) -> Own
+        requires { HoldsPaths routes.now.net.now paths.now }
+        ensures { HoldsOwnInSeries routes.now.net.now result }
+    {
+        let mut own = Own::new();
+        for line in 1..routes.net.line_count() + 1 {
+            own.raise(routes.firsts.first(line), paths.count(line));
+            let beyond = far_place(routes, line);
+            let count = series::count_beyond(routes.net, routes.tree, paths, line);
+            own.raise(beyond, count);
+        }
+        own
+    }
+
+    // The weight of a place before any is chosen: what is its own, and what is that of the places under it.
+    fn start_weight(&self, net: &Network, paths: &Paths, relations: &Relations, place: usize) -> u64
+        requires places { Accepted net.now × HoldsPaths net.now paths.now × PlaceThere net.now place }
+        requires own { HoldsRelations net.now relations.now × HoldsOwn net.now self.now }
+        ensures { result ≡ weight_at net.now [] (end_at net.now place) }
+    {
+        let mut weight: u64 = 0;
+        for s in 1..net.place_count() + 1 {
+            if under(net, paths, relations, place, s) {
+                weight += self.of(s);
+            }
+        }
+        weight
+    }
+
+    // The most breakers in series with a place before any is chosen: the most of what is its own, or of a place behind it.
+    fn start_in_series(&self, net: &Network, relations: &Relations, place: usize) -> u64
+        requires { Accepted net.now × HoldsRelations net.now relations.now
+            × HoldsOwnInSeries net.now self.now × PlaceThere net.now place }
+        ensures { result ≡ in_series_at net.now [] (end_at net.now place) }
+    {
+        let mut in_series: u64 = 0;
+        for s in 1..net.place_count() + 1 {
+            if behind(relations, place, s) {
+                in_series = in_series.max(self.of(s));
+            }
+        }
+        in_series
+    }
 }
 
 impl Outlook {
@@ -226,18 +255,18 @@ impl Outlook {
     // Sets the prospects of the empty set: of each place the breaker upstream of it, its weight and the most breakers in series with
     // it.
     pub fn start(&mut self, routes: &Routes, paths: &Paths, relations: &Relations)
-        requires { HoldsRoutes routes.now × HoldsPaths routes.now.net.now paths.now
+        requires { HoldsPaths routes.now.net.now paths.now
             × HoldsRelations routes.now.net.now relations.now }
         ensures { HoldsOutlook routes.now.net.now [] 1 self.new }
     {
         let net = routes.net;
-        let own = own_weights(routes, paths);
-        let in_series = own_in_series(routes, paths);
+        let own = Own::weights(routes, paths);
+        let in_series = Own::in_series(routes, paths);
         for place in 1..net.place_count() + 1 {
             let prospect = Prospect {
                 upstream: start_upstream(net, paths, place),
-                weight: start_weight(net, paths, relations, &own, place),
-                in_series: start_in_series(net, relations, &in_series, place),
+                weight: own.start_weight(net, paths, relations, place),
+                in_series: in_series.start_in_series(net, relations, place),
             };
             self.set(place, prospect);
         }

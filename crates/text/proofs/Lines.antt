@@ -7,6 +7,7 @@ use native.Mathlib.Omega.{arith}
 use lib.ListN.{length, get_or, take, drop, set, length-append, length-set}
 use lib.Seq.{take-suc, take_all, drop-set-lt}
 use borrow.Rule.Slice.PartMut.{put_mid}
+use Rattle.std.proofs.lemmas.Grind.{flat_map-append}
 use Rattle.model.specs.Format.{comma, newline}
 use Rattle.model.specs.Text.{decimal, printed_line}
 use Rattle.text.specs.Over.{over, Written}
@@ -16,15 +17,10 @@ use Rattle.text.proofs.Over.{over-length, over-set, over-part}
 unfoldable pub line_start : ℕ → List ℕ → List ℕ
 line_start letter ns = letter ∷ flat_map (λ n. comma ∷ decimal n) ns
 
-pub flat_map-append : (f : ℕ → List ℕ) (a b : List ℕ) → flat_map f (a ++ b) ≡ flat_map f a ++ flat_map f b
-unfolding flat_map
-flat_map-append f [] b = refl
-flat_map-append f (x ∷ a) b = rw (flat_map-append f a b, append_assoc)
-
 start-more : (letter : ℕ) (ns : List ℕ) (i : ℕ) → i < length ns → (line_start letter (take i ns) ++ (comma ∷ [])) ++ decimal (get_or ns i 0) ≡ line_start letter (take (i + 1) ns)
 unfolding line_start flat_map
 start-more letter ns i h =
-    rw (add-one, take-suc ns i 0, flat_map-append, append-nil, append_assoc)
+    rw (add-one, take-suc ns i 0, flat_map-append (λ n. comma ∷ decimal n), append-nil, append_assoc)
 
 start-all : (letter : ℕ) (ns : List ℕ) (i : ℕ) → length ns ≤ i → line_start letter (take i ns) ++ (newline ∷ []) ≡ printed_line letter ns
 unfolding line_start printed_line

@@ -13,7 +13,7 @@ use Rattle.model.specs.Paths.{line_numbers}
 use Rattle.theory.specs.Sizes.{numbers-length}
 use Rattle.text.specs.Over.{over, Written}
 use Rattle.text.proofs.Over.{over-length, over-part}
-use Rattle.text.proofs.Lines.{flat_map-append}
+use Rattle.std.proofs.lemmas.Grind.{flat_map-append}
 
 -- where a text is written, so is an equal text
 pub same_text : (s t b d : List ℕ) (n : ℕ) → s ≡ t → Written s b d n → Written t b d n
@@ -40,7 +40,7 @@ module _ (f : ℕ → List ℕ) (xs b : List ℕ) where
 
   text-more : (i : ℕ) → i < length xs → flat_map f (take i xs) ++ f (get_or xs i 0) ≡ flat_map f (take (i + 1) xs)
   unfolding flat_map
-  text-more i h = rw (add-one, take-suc xs i 0, flat_map-append, append-nil)
+  text-more i h = rw (add-one, take-suc xs i 0, flat_map-append f, append-nil)
 
   -- the text of one element more, over the start of the part behind the others
   pub listed_more : (w d : List ℕ) (at i x n : ℕ) → i < length xs → x ≡ get_or xs i 0 → at + n ≤ length b → Listed f xs b w at i

@@ -1,4 +1,6 @@
-// The writers of the report's lines.
+// The writers of the report's lines. Each function here, and in the crates that write rows, writes at the start of a lent buffer and
+// answers the length of what it put there; its contract says each byte. `write!` would not do: its contract says what was written where
+// it answers Ok, and not that it does so where there is room, while these functions cannot fail.
 #![tactic(auto)]
 
 ghost use Rattle.std.specs.Prelude.{◌≡◌, ◌+◌, ◌*◌, ◌≤◌, ◌<◌, length, set};
@@ -13,7 +15,8 @@ fn put_byte(buf: &mut [u8], at: usize, byte: u8)
     buf[at] = byte;
 }
 
-// The decimal digits of a number at the start of a buffer; answers how many.
+// The decimal digits of a number at the start of a buffer; answers how many. They are those of the specification's text, `decimal`, which
+// those of the library's writers would have to be proved to be: that is no plainer.
 pub fn put_number(buf: &mut [u8], n: u64) -> usize
     requires { 20 ≤ length buf.old }
     ensures written { Written (decimal n) buf.old buf.new result }

@@ -8,6 +8,7 @@ use std::io;
 fn show(rt: &impl Print, letter: u8, numbers: &[u64]) -> io::Result<()>
     requires { length numbers.now ≤ 4 }
 {
+    // Room for the longest line, lent as C lends it.
     let mut line = [0u8; 86];
     let n = text::put_line(&mut line, letter, numbers);
     rt.write_all(&line[..n])

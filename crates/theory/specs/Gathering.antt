@@ -45,11 +45,11 @@ on-up-to true x most h = h
 on-up-to false x most h = omega arith
 
 -- ── gathered in a buffer ──
--- a cleared buffer
-pub zeros : (n k : ℕ) → ◌≡◌ {A = ℕ} (get_or (replicate n 0) k 0) 0
-zeros zero k = refl
-zeros (suc n) zero = refl
-zeros (suc n) (suc k) = zeros n k
+-- a list of one value, also past its end
+pub always : {A : Type 0} (x : A) (n k : ℕ) → get_or (replicate n x) k x ≡ x
+always x zero k = refl
+always x (suc n) zero = refl
+always x (suc n) (suc k) = always x n k
 
 -- `own` has at each index p the weights of the lines before l whose index it is: with those from l on it is the whole
 abbrev pub Gathered : (ℕ → ℕ) → (ℕ → ℕ) → ℕ → List ℕ → ℕ → Type 0
@@ -57,7 +57,7 @@ Gathered index weight end own l = (p : ℕ) → get_or own p 0 + sum_from (λ k.
 
 -- nothing yet
 pub gathered_none : (index weight : ℕ → ℕ) (end n : ℕ) → Gathered index weight end (replicate n 0) 1
-gathered_none index weight end n p = omega (arith, zeros n p)
+gathered_none index weight end n p = omega (arith, always {A = ℕ} 0 n p)
 
 module _ (index weight : ℕ → ℕ) (end : ℕ) (own : List ℕ) (l : ℕ) where
   -- one line more

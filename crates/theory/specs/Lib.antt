@@ -10,6 +10,7 @@ pub mod Gathering
 pub mod Behind
 pub mod With
 pub mod Best
+pub mod Props
 pub mod Listing
 pub mod Limits
 pub mod Segments

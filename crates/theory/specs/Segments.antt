@@ -76,6 +76,17 @@ module _ {A : Type 0} (row : A → List ℕ) (five : (x : A) → length (row x) 
   unfolding column
   column-rows xs = column-from (flat_map row xs ++ rest) 0 xs (λ i. ap (λ (j : ℕ). get_or (flat_map row xs ++ rest) j 0) {x = 5 * 0 + i} {y = i} (omega arith))
 
+module _ (N : Network) where
+  rows-length : (es : List End) → length (flat_map (λ e. segment N e) es) ≡ 5 * length es
+  unfolding flat_map segment
+  rows-length [] = refl
+  rows-length (e ∷ es) = omega (arith, rows-length es)
+
+  -- the numbers of the segment table
+  pub table-length : length (segment_table N) ≡ 5 * length (breaker_ends N)
+  unfolding segment_table
+  table-length = rows-length (breaker_ends N)
+
 -- a breaker trips for each line
 pub tripped-breaker : (N : Network) → Read N → Rules N → (l : ℕ) → 1 ≤ l → l ≤ length N.lines → is_breaker N (tripped N l) ≡ true
 unfolding tripped

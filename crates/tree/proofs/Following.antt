@@ -9,27 +9,25 @@ use lib.Seq.{append_snoc}
 use Rattle.std.specs.Prelude.{Option}
 use Rattle.model.specs.Lists.{keep}
 use Rattle.model.specs.Paths.{End}
-use Rattle.network.specs.View.{side_of}
 use Rattle.tree.specs.Linked.{LineHeld}
-use Rattle.tree.specs.Queue.{of_feeder, leaving, sides_after, feed_after, Room, Added}
+use Rattle.tree.specs.Queue.{of_feeder, leaving, feed_of, fed_after, Room, Added}
 use Rattle.tree.specs.declared.Supply.{Supply}
 
 -- the ends of a list are left
 pub record Following (y₀ : Supply) (fed : Option ℕ) (ends : List End) (y : Supply) (rest : List End) : Type 0 where
   pub room : Room y rest fed
-  pub nears : sides_after y.sides (leaving fed rest) ≡ sides_after y₀.sides (leaving fed ends)
-  pub feeds : feed_after fed y.feeders (leaving fed rest) ≡ feed_after fed y₀.feeders (leaving fed ends)
+  pub feeds : fed_after fed y.lines (leaving fed rest) ≡ fed_after fed y₀.lines (leaving fed ends)
   pub orders : y.order.items ++ map (λ e. e.line) (leaving fed rest) ≡ y₀.order.items ++ map (λ e. e.line) (leaving fed ends)
 
 module _ {y₀ : Supply} {fed : Option ℕ} {ends : List End} where
   pub following-start : Room y₀ ends fed → Following y₀ fed ends y₀ ends
-  following-start m = record { room = m; nears = refl; feeds = refl; orders = refl }
+  following-start m = record { room = m; feeds = refl; orders = refl }
 
   module _ {y : Supply} where
     -- the list is at its end
     pub following-end : Following y₀ fed ends y [] → Added (leaving fed ends) fed y₀ y
-    unfolding keep sides_after feed_after
-    following-end f = record { nears = f.nears; feeds = f.feeds; orders = sym (append-nil y.order.items) ∙ f.orders }
+    unfolding keep fed_after
+    following-end f = record { feeds = f.feeds; orders = sym (append-nil y.order.items) ∙ f.orders }
 
     module _ {e : End} {rest : List End} (f : Following y₀ fed ends y (e ∷ rest)) where
       pub following-line : LineHeld e.line
@@ -42,8 +40,7 @@ module _ {y₀ : Supply} {fed : Option ℕ} {ends : List End} where
           let k : leaving fed (e ∷ rest) ≡ leaving fed rest = rw (z, keep) in
           record {
             room = record { lines = λ x m. f.room.lines x (Memᴰ.tail m); fits = omega (arith, f.room.fits, ap length k) };
-            nears = ap (sides_after y.sides) (sym k) ∙ f.nears;
-            feeds = ap (feed_after fed y.feeders) (sym k) ∙ f.feeds;
+            feeds = ap (fed_after fed y.lines) (sym k) ∙ f.feeds;
             orders = ap (λ es. y.order.items ++ map (λ x. x.line) es) (sym k) ∙ f.orders;
           }
 
@@ -56,12 +53,11 @@ module _ {y₀ : Supply} {fed : Option ℕ} {ends : List End} where
         pub following-room : length y.order.items < 768
         following-room = omega (arith, f.room.fits, ap length kept)
 
-        pub following-add : (y' : Supply) → y'.sides ≡ set y.sides (e.line - 1) (side_of e.side) → y'.feeders ≡ set y.feeders (e.line - 1) fed → y'.order.items ≡ y.order.items ++ (e.line ∷ []) → Following y₀ fed ends y' rest
-        unfolding sides_after feed_after
-        following-add y' s t o = record {
+        pub following-add : (y' : Supply) → y'.lines ≡ set y.lines (e.line - 1) (feed_of fed e) → y'.order.items ≡ y.order.items ++ (e.line ∷ []) → Following y₀ fed ends y' rest
+        unfolding fed_after
+        following-add y' s o = record {
           room = record { lines = λ x m. f.room.lines x (Memᴰ.tail m); fits = omega (arith, f.room.fits, ap length kept, ap length o, length-append y.order.items (e.line ∷ [])) };
-          nears = ap (λ xs. sides_after xs (leaving fed rest)) s ∙ ap (sides_after y.sides) (sym kept) ∙ f.nears;
-          feeds = ap (λ xs. feed_after fed xs (leaving fed rest)) t ∙ ap (feed_after fed y.feeders) (sym kept) ∙ f.feeds;
+          feeds = ap (λ xs. fed_after fed xs (leaving fed rest)) s ∙ ap (fed_after fed y.lines) (sym kept) ∙ f.feeds;
           orders = ap (λ xs. xs ++ map (λ x. x.line) (leaving fed rest)) o
               ∙ append_snoc y.order.items e.line (map (λ x. x.line) (leaving fed rest))
               ∙ ap (λ es. y.order.items ++ map (λ x. x.line) es) (sym kept)

@@ -1,6 +1,7 @@
 pub mod Fitting
 pub mod Near
 pub mod Lengths
+pub mod Full
 mod Chains
 mod Codes
 mod Linking

@@ -1,5 +1,5 @@
 -- How the lists of closed ends grow, from the last code to the first.
-use Prim.Native.Nat.{ℕ, zero, suc, ◌*◌, ◌-◌, ◌≤◌, ◌<◌}
+use Prim.Native.Nat.{ℕ, ◌*◌, ◌-◌, ◌≤◌, ◌<◌}
 use mathlib.Core.Path.{◌≡◌, refl, sym, ap, ◌∙◌, subst}
 use mathlib.Core.Bool.{true, false}
 use mathlib.Core.Logic.{◌≢◌}
@@ -7,7 +7,7 @@ use mathlib.Core.List.{List, ◌∷◌}
 use native.Mathlib.Decide.{ℕ_discrete}
 use native.Mathlib.Omega.{arith}
 use lib.Dec.{eqb}
-use lib.ListN.{length, get_or, set, replicate}
+use lib.ListN.{length, get_or, set}
 use lib.Seq.{get_or-set_same, get_or-set_other}
 use borrow.Author.Tests.{eq-eqb, ne_eqb}
 use Rattle.std.specs.Prelude.{Option, None, Some}
@@ -28,12 +28,6 @@ chain-set {nexts} c v a f (link {c = h} {es} p q g t) =
   where
     same : get_or (set nexts (c - 1) v) (h - 1) None ≡ get_or nexts (h - 1) None
     same = get_or-set_other nexts (c - 1) (h - 1) v None (omega (arith, f h refl))
-
--- empty lists
-pub nones : (n k : ℕ) → get_or (replicate {A = Option ℕ} n None) k None ≡ None
-nones zero k = refl
-nones (suc n) zero = refl
-nones (suc n) (suc k) = nones n k
 
 -- nothing is one thing and none
 never : {o : Option ℕ} {d : ℕ} → o ≡ None → o ≡ Some d → ⊥

@@ -10,7 +10,7 @@ use native.Mathlib.Numerals.{add-one}
 use native.Mathlib.Omega.{arith}
 use lib.Dec.{eqb}
 use lib.ListN.{length, get_or, take, length-append, length-map}
-use lib.Seq.{take-suc, take-append-le}
+use lib.Seq.{take-suc, take-append-le, take_all}
 use Rattle.std.specs.Prelude.{Option, None, Some}
 use Rattle.model.specs.Network.{Network}
 use Rattle.model.specs.Paths.{station, line, End, is_open, station_at, closed_ends, is_hv, at_hv}
@@ -22,8 +22,9 @@ use Rattle.theory.specs.Ends.{keep-in, closed_in, closed-end}
 use Rattle.theory.specs.Radial.{Rules, In, root_in, station-in}
 use Rattle.theory.specs.Behind.{far}
 use Rattle.network.specs.There.{LineThere}
+use Rattle.network.specs.Found.{found, found-is}
 use Rattle.tree.specs.Linked.{LineHeld, ends_at}
-use Rattle.tree.specs.Outwards.{near_end, some_line}
+use Rattle.tree.specs.Outwards.{near_end}
 use Rattle.tree.specs.Held.{HasList, listed_ends, noted_near, HoldsTree}
 use Rattle.tree.specs.Queue.{Linked, leaving, Room, Added, Laid, Told, Queue, HVBelow, Reached, Whole}
 use Rattle.tree.specs.Feeding.{FarEnd}
@@ -34,7 +35,7 @@ use Rattle.tree.proofs.Fitting.{read_fits, line_held}
 use Rattle.tree.proofs.Chains.{whole-chain}
 use Rattle.tree.proofs.Near.{near-end, hv-path, far-first}
 use Rattle.tree.proofs.Leaving.{Leaves, leaves-hv, leaves-far}
-use Rattle.tree.proofs.Adding.{sides-length, feed-length, Placed, told-after}
+use Rattle.tree.proofs.Adding.{fed-length, Placed, told-after}
 use Rattle.tree.proofs.Laying.{place_of, at_place, laid-count, laid_same, laid_more, laid-all, laid-full}
 
 -- an element of a list without repeats is none of those before it
@@ -51,16 +52,6 @@ in-take [] (suc i) m = m
 in-take (x ∷ xs) zero m = absurd (Memᴰ.not-nil m)
 in-take (x ∷ xs) (suc i) m = ⊎_elim (λ e. Memᴰ.head e) (λ k. Memᴰ.tail (in-take xs i k)) (Memᴰ.cases_cons m)
 
-take-whole : (xs : List ℕ) (i : ℕ) → length xs ≤ i → take i xs ≡ xs
-take-whole [] zero h = refl
-take-whole [] (suc i) h = refl
-take-whole (x ∷ xs) zero h = absurd (omega arith)
-take-whole (x ∷ xs) (suc i) h = ap (λ ys. x ∷ ys) (take-whole xs i (omega arith))
-
-pub line-some : (l : ℕ) → 1 ≤ l → Some l ≡ some_line l
-line-some zero h = absurd (omega arith)
-line-some (suc l) h = refl
-
 -- the list of a station
 module _ (N : Network) (d : Read N) (x : Lists) (k : Linked N x) (s : ℕ) (i : In N (station s)) where
   pub linked-has : HasList x s
@@ -70,9 +61,9 @@ module _ (N : Network) (d : Read N) (x : Lists) (k : Linked N x) (s : ℕ) (i : 
   linked-ends = whole-chain (k s i.0 i.1)
 
 module _ (N : Network) (d : Read N) (r : Rules N) where
-  pub queue-start : (y : Supply) → y.order.items ≡ [] → length y.sides ≡ 768 → length y.feeders ≡ 768 → Queue N (HVBelow N 1) y
+  pub queue-start : (y : Supply) → y.order.items ≡ [] → length y.lines ≡ 768 → Queue N (HVBelow N 1) y
   unfolding at_hv
-  queue-start y e a b = record {
+  queue-start y e a = record {
     laid = subst (Laid N (HVBelow N 1)) (sym e) (record {
       inside = λ l m. absurd (Memᴰ.not-nil m);
       near = λ l m. absurd (Memᴰ.not-nil m);
@@ -80,18 +71,17 @@ module _ (N : Network) (d : Read N) (r : Rules N) where
       once = tt;
       after = λ i h. absurd (omega arith);
     });
-    told = subst (Told N y.sides y.feeders) (sym e) (λ l m. absurd (Memᴰ.not-nil m));
-    nears = a;
-    feeds = b;
+    told = subst (Told N y.lines) (sym e) (λ l m. absurd (Memᴰ.not-nil m));
+    feeds = a;
   }
 
   module _ {Done : ℕ → Type 0} (y : Supply) (q : Queue N Done y) where
     -- the same stations
     queue-same : {Done' : ℕ → Type 0} → ((t : ℕ) → Done t → Done' t) → ((t : ℕ) → Done' t → Done t) → Queue N Done' y
-    queue-same f g = record { laid = laid_same N f g q.laid; told = q.told; nears = q.nears; feeds = q.feeds }
+    queue-same f g = record { laid = laid_same N f g q.laid; told = q.told; feeds = q.feeds }
 
     -- one station more
-    module _ (s fed : ℕ) (o : Option ℕ) (p : o ≡ some_line fed) (v : Leaves N s (leaving o (ends_at N s)) fed) (new : Done s → ⊥) (known : 1 ≤ fed → Memᴰ fed y.order.items) where
+    module _ (s fed : ℕ) (o : Option ℕ) (p : o ≡ found fed) (v : Leaves N s (leaving o (ends_at N s)) fed) (new : Done s → ⊥) (known : 1 ≤ fed → Memᴰ fed y.order.items) where
       -- there is room for its lines
       room : length y.order.items + length (leaving o (ends_at N s)) ≤ 768
       room =
@@ -101,11 +91,11 @@ module _ (N : Network) (d : Read N) (r : Rules N) where
       held : (e : End) → Memᴰ e (ends_at N s) → LineHeld e.line
       held e m = let c = closed-end N e (closed_in N e (keep-in (λ e. eqb (station_at N e) s) e (closed_ends N) m).0) in line_held N d (record { low = c.0; high = c.1 })
 
-      placed : (e : End) → Memᴰ e (leaving o (ends_at N s)) → Placed N fed e (length y.sides)
+      placed : (e : End) → Memᴰ e (leaving o (ends_at N s)) → Placed N fed e (length y.lines)
       placed e m =
           let i = v.inside e m in
           let z = v.sides e m in
-          record { low = i.0; high = omega (arith, i.1, q.nears, (read_fits N d).lines); first = z.0; second = z.1; near = v.near e m; feeds = v.feeds e m }
+          record { low = i.0; high = omega (arith, i.1, q.feeds, (read_fits N d).lines); first = z.0; second = z.1; near = v.near e m; feeds = v.feeds e m }
 
       queue-room : (ends : List End) → ends ≡ ends_at N s → Room y ends o
       queue-room ends e = subst (λ es. Room y es o) (sym e) (record { lines = held; fits = room })
@@ -121,13 +111,11 @@ module _ (N : Network) (d : Read N) (r : Rules N) where
         queue-add : {Done' : ℕ → Type 0} → ((t : ℕ) → Done t → Done' t) → Done' s → ((t : ℕ) → Done' t → Done t ⊎ (t ≡ s)) → Queue N Done' y'
         queue-add {Done'} f here g = record {
           laid = subst (Laid N Done') (sym a.orders) (laid_more N d r s (leaving o (ends_at N s)) fed q.laid v new known f here g);
-          told = subst (Told N y'.sides y'.feeders) (sym a.orders)
-              (rw (a.nears, a.feeds, p)
-              (told-after N fed y.sides y.feeders y.order.items (leaving (some_line fed) (ends_at N s)) (λ l m. (q.laid.inside l m).0)
-              (subst (λ o. (e : End) → Memᴰ e (leaving o (ends_at N s)) → Placed N fed e (length y.sides)) p placed)
-              (q.feeds ∙ sym q.nears) q.told));
-          nears = ap length a.nears ∙ sides-length y.sides (leaving o (ends_at N s)) ∙ q.nears;
-          feeds = ap length a.feeds ∙ feed-length o y.feeders (leaving o (ends_at N s)) ∙ q.feeds;
+          told = subst (Told N y'.lines) (sym a.orders)
+              (rw (a.feeds, p)
+              (told-after N fed y.lines y.order.items (leaving (found fed) (ends_at N s)) (λ l m. (q.laid.inside l m).0)
+              (subst (λ o. (e : End) → Memᴰ e (leaving o (ends_at N s)) → Placed N fed e (length y.lines)) p placed) q.told));
+          feeds = ap length a.feeds ∙ fed-length o y.lines (leaving o (ends_at N s)) ∙ q.feeds;
         }
 
   -- ── the HV stations ──
@@ -172,16 +160,10 @@ module _ (N : Network) (d : Read N) (r : Rules N) where
     pub line-there : LineThere N l
     line-there = record { low = line-in.0; high = line-in.1 }
 
-    near-noted : noted_near y l ≡ near_end N l
-    near-noted =
-        let own : l ≡ (near_end N l).line = sym (near-end N d r l line-in).own in
-        let side = (q.told l stands).0 in
-        λ j. record { line = own j; side = side j }
+    far-noted : (f : End) → f ≡ far (noted_near y.lines l) → f ≡ far (near_end N l)
+    far-noted f e = e ∙ ap far (q.told l stands).0
 
-    far-noted : (f : End) → f ≡ far (noted_near y l) → f ≡ far (near_end N l)
-    far-noted f e = e ∙ ap far near-noted
-
-    pub far-line : (f : End) → f ≡ far (noted_near y l) → LineThere N f.line
+    pub far-line : (f : End) → f ≡ far (noted_near y.lines l) → LineThere N f.line
     far-line f e = subst (LineThere N) (sym (ap (λ (x : End). x.line) e)) line-there
 
     one_more : take (i + 1) y.order.items ≡ take i y.order.items ++ (l ∷ [])
@@ -198,10 +180,10 @@ module _ (N : Network) (d : Read N) (r : Rules N) where
         go k c p (inl m) = inl (inr (k, m, c, p))
         go k c p (inr m) = let e = Memᴰ.eq_of_singleton m in inr (ap (λ k. is_open N (far (near_end N k))) (sym e) ∙ c, ap (λ k. station_at N (far (near_end N k))) (sym e) ∙ p)
 
-    pub far-skip : (f : End) → f ≡ far (noted_near y l) → is_open N f ≡ true → Queue N (Reached N (take (i + 1) y.order.items)) y
+    pub far-skip : (f : End) → f ≡ far (noted_near y.lines l) → is_open N f ≡ true → Queue N (Reached N (take (i + 1) y.order.items)) y
     far-skip f e o = queue-same y q reached-less (λ t x. ⊎_elim (λ z. z) (λ z. absurd (true≢false (sym o ∙ ap (is_open N) (far-noted f e) ∙ z.0))) (reached-more t x))
 
-    module _ (f : End) (e : f ≡ far (noted_near y l)) (c : is_open N f ≡ false) where
+    module _ (f : End) (e : f ≡ far (noted_near y.lines l)) (c : is_open N f ≡ false) where
       is-far : f ≡ far (near_end N l)
       is-far = far-noted f e
 
@@ -238,15 +220,15 @@ module _ (N : Network) (d : Read N) (r : Rules N) where
 
       module _ (ends : List End) (z : ends ≡ ends_at N (station_at N f)) where
         pub far-room : Room y ends (Some l)
-        far-room = queue-room y q (station_at N f) l (Some l) (line-some l line-in.0) leaves new-far (λ x. stands) ends z
+        far-room = queue-room y q (station_at N f) l (Some l) (found-is l line-in.0) leaves new-far (λ x. stands) ends z
 
         pub far-add : (y' : Supply) → Added (leaving (Some l) ends) (Some l) y y' → Queue N (Reached N (take (i + 1) y'.order.items)) y' × (i < length y'.order.items)
         far-add y' a = (
-          subst (λ ls. Queue N (Reached N ls) y') (sym (queue-kept y q (station_at N f) l (Some l) (line-some l line-in.0) leaves new-far (λ x. stands) y' added (i + 1) (omega arith)))
-              (queue-add y q (station_at N f) l (Some l) (line-some l line-in.0) leaves new-far (λ x. stands) y' added reached-less
+          subst (λ ls. Queue N (Reached N ls) y') (sym (queue-kept y q (station_at N f) l (Some l) (found-is l line-in.0) leaves new-far (λ x. stands) y' added (i + 1) (omega arith)))
+              (queue-add y q (station_at N f) l (Some l) (found-is l line-in.0) leaves new-far (λ x. stands) y' added reached-less
               (inr (l, rw one_more (Memᴰ.append_right (take i y.order.items) (Memᴰ.head refl)), ap (is_open N) (sym is-far) ∙ c, ap (station_at N) (sym is-far)))
               (λ t x. ⊎_elim (λ u. inl u) (λ u. inr (sym u.1 ∙ ap (station_at N) (sym is-far))) (reached-more t x))),
-          omega (arith, queue-longer y q (station_at N f) l (Some l) (line-some l line-in.0) leaves new-far (λ x. stands) y' added),
+          omega (arith, queue-longer y q (station_at N f) l (Some l) (found-is l line-in.0) leaves new-far (λ x. stands) y' added),
         )
           where
             added : Added (leaving (Some l) (ends_at N (station_at N f))) (Some l) y y'
@@ -254,7 +236,7 @@ module _ (N : Network) (d : Read N) (r : Rules N) where
 
   -- every line has had its turn
   pub queue-end : (i : ℕ) (y : Supply) → Queue N (Reached N (take i y.order.items)) y → length y.order.items ≤ i → Whole N y
-  queue-end i y q h = subst (λ ls. Queue N (Reached N ls) y) (take-whole y.order.items i h) q
+  queue-end i y q h = subst (λ ls. Queue N (Reached N ls) y) (take_all i y.order.items h) q
 
   pub grown : (t : Tree) → Linked N t.lists → Whole N t.supply → HoldsTree N t
   grown t k q = record {
@@ -262,10 +244,7 @@ module _ (N : Network) (d : Read N) (r : Rules N) where
     lines = (read_fits N d).lines;
     has = λ s i. linked-has N d t.lists k s (i.low, i.high);
     ends = λ s i. linked-ends N d t.lists k s (i.low, i.high);
-    nears = λ l i.
-        let own : l ≡ (near_end N l).line = sym (near-end N d r l (i.low, i.high)).own in
-        let side = (q.told l (all l i)).0 in
-        λ j. record { line = own j; side = side j };
+    nears = λ l i. (q.told l (all l i)).0;
     feeds = λ l i. (q.told l (all l i)).1;
     count = full;
     listed = λ l i. let x = place_of (all l i) in (x.0, omega (arith, x.1, full), x.2);

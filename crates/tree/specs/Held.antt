@@ -8,7 +8,7 @@ use Rattle.network.specs.There.{StationThere, LineThere}
 use Rattle.tree.specs.Linked.{Listed, along, ends_at}
 use Rattle.tree.specs.Outwards.{near_end, feeder, fed_by}
 use Rattle.tree.specs.declared.Lists.{Lists}
-use Rattle.tree.specs.declared.Supply.{Supply}
+use Rattle.tree.specs.declared.Feed.{Feed}
 use Rattle.tree.specs.declared.Tree.{Tree}
 
 -- a station has a list, and the ends of its list
@@ -20,9 +20,18 @@ pub record HasList (x : Lists) (s : ℕ) : Type 0 where
 abbrev pub listed_ends : Lists → ℕ → List End
 listed_ends x s = along 1536 x.nexts (get_or x.firsts (s - 1) None)
 
--- the near end of a line as it is noted
-abbrev pub noted_near : Supply → ℕ → End
-noted_near y l = record { line = l; side = side_number (get_or y.sides (l - 1) One) }
+-- what is noted of a line: how it is fed, and with that its near end and the line that feeds it
+abbrev pub no_feed : Feed
+no_feed = record { side = One; feeder = None }
+
+abbrev pub feed_in : List Feed → ℕ → Feed
+feed_in lines l = get_or lines (l - 1) no_feed
+
+abbrev pub noted_near : List Feed → ℕ → End
+noted_near lines l = record { line = l; side = side_number (feed_in lines l).side }
+
+abbrev pub noted_feeder : List Feed → ℕ → Option ℕ
+noted_feeder lines l = (feed_in lines l).feeder
 
 -- what a tree has of a station: that it has a list, and the ends of it
 abbrev pub HasEnds : Tree → ℕ → Type 0
@@ -33,10 +42,10 @@ ends_in t s = listed_ends t.lists s
 
 -- what it has of a line: its near end, and the line that feeds it
 abbrev pub near_in : Tree → ℕ → End
-near_in t l = noted_near t.supply l
+near_in t l = noted_near t.supply.lines l
 
 abbrev pub feeder_in : Tree → ℕ → Option ℕ
-feeder_in t l = get_or t.supply.feeders (l - 1) None
+feeder_in t l = noted_feeder t.supply.lines l
 
 -- its lines, from the HV stations outwards
 abbrev pub lines_in : Tree → List ℕ

@@ -1,8 +1,9 @@
 -- How a line is fed, by its path to the HV station: its near end and the line that feeds its near station.
-use Rattle.std.specs.Prelude.{ℕ, zero, suc, Option, None, Some, List, [], ◌∷◌}
+use Rattle.std.specs.Prelude.{ℕ, Option, List, [], ◌∷◌}
 use Rattle.model.specs.Network.{Network}
 use Rattle.model.specs.Paths.{line, End}
 use Rattle.model.specs.Outage.{path_to_hv, no_end}
+use Rattle.network.specs.Found.{found}
 
 -- the near end of a line: the first on its path to the HV station
 unfoldable pub first_end : List End → End
@@ -23,11 +24,7 @@ unfoldable pub feeder : Network → ℕ → ℕ
 unfolding second_line
 feeder N l = second_line (path_to_hv N (line l))
 
-abbrev pub some_line : ℕ → Option ℕ
-some_line zero = None
-some_line (suc l) = Some (suc l)
-
 -- the line that feeds a line, none where its near station is an HV station
 unfoldable pub fed_by : Network → ℕ → Option ℕ
 unfolding feeder
-fed_by N l = some_line (feeder N l)
+fed_by N l = found (feeder N l)

@@ -8,12 +8,12 @@ use Rattle.model.specs.Paths.{line, End, is_open, station_at, is_hv}
 use Rattle.graphs.specs.Graph.{NoRepeat}
 use Rattle.theory.specs.Radial.{In}
 use Rattle.theory.specs.Behind.{far}
-use Rattle.network.specs.declared.Side.{Side}
-use Rattle.network.specs.declared.Side.TheVariants.{One}
-use Rattle.network.specs.View.{side_number, side_of}
+use Rattle.network.specs.View.{side_of}
 use Rattle.tree.specs.Linked.{code_end, LineHeld, Chain, ends_at}
 use Rattle.tree.specs.Outwards.{near_end, feeder, fed_by}
+use Rattle.tree.specs.Held.{noted_near, noted_feeder}
 use Rattle.tree.specs.declared.Lists.{Lists}
+use Rattle.tree.specs.declared.Feed.{Feed}
 use Rattle.tree.specs.declared.Supply.{Supply}
 
 -- ── the lists of closed ends ──
@@ -43,14 +43,14 @@ of_feeder (Some l) e = eqb e.line l
 abbrev pub leaving : Option ℕ → List End → List End
 leaving fed es = keep (λ e. not (of_feeder fed e)) es
 
--- what is noted when the lines of some ends are added
-unfoldable pub sides_after : List Side → List End → List Side
-sides_after sides [] = sides
-sides_after sides (e ∷ es) = sides_after (set sides (e.line - 1) (side_of e.side)) es
+-- what is noted of the line of an end that is its near end
+abbrev pub feed_of : Option ℕ → End → Feed
+feed_of fed e = record { side = side_of e.side; feeder = fed }
 
-unfoldable pub feed_after : Option ℕ → List (Option ℕ) → List End → List (Option ℕ)
-feed_after fed feeders [] = feeders
-feed_after fed feeders (e ∷ es) = feed_after fed (set feeders (e.line - 1) fed) es
+-- what is noted when the lines of some ends are added
+unfoldable pub fed_after : Option ℕ → List Feed → List End → List Feed
+fed_after fed lines [] = lines
+fed_after fed lines (e ∷ es) = fed_after fed (set lines (e.line - 1) (feed_of fed e)) es
 
 -- there is room for the lines of the ends in a list
 pub record Room (y : Supply) (ends : List End) (fed : Option ℕ) : Type 0 where
@@ -59,8 +59,7 @@ pub record Room (y : Supply) (ends : List End) (fed : Option ℕ) : Type 0 where
 
 -- the lines of these ends are added
 pub record Added (es : List End) (fed : Option ℕ) (old new : Supply) : Type 0 where
-  pub nears : new.sides ≡ sides_after old.sides es
-  pub feeds : new.feeders ≡ feed_after fed old.feeders es
+  pub feeds : new.lines ≡ fed_after fed old.lines es
   pub orders : new.order.items ≡ old.order.items ++ map (λ e. e.line) es
 
 -- ── the queue ──
@@ -73,14 +72,13 @@ pub record Laid (N : Network) (Done : ℕ → Type 0) (ls : List ℕ) : Type 0 w
   pub after : (i : ℕ) → i < length ls → 1 ≤ feeder N (get_or ls i 0) → (j : ℕ) × (j < i) × (get_or ls j 0 ≡ feeder N (get_or ls i 0))
 
 -- what is noted of lines
-abbrev pub Told : Network → List Side → List (Option ℕ) → List ℕ → Type 0
-Told N sides feeders ls = (l : ℕ) → Memᴰ l ls → (side_number (get_or sides (l - 1) One) ≡ (near_end N l).side) × (get_or feeders (l - 1) None ≡ fed_by N l)
+abbrev pub Told : Network → List Feed → List ℕ → Type 0
+Told N lines ls = (l : ℕ) → Memᴰ l ls → (noted_near lines l ≡ near_end N l) × (noted_feeder lines l ≡ fed_by N l)
 
 pub record Queue (N : Network) (Done : ℕ → Type 0) (y : Supply) : Type 0 where
   pub laid : Laid N Done y.order.items
-  pub told : Told N y.sides y.feeders y.order.items
-  pub nears : length y.sides ≡ 768
-  pub feeds : length y.feeders ≡ 768
+  pub told : Told N y.lines y.order.items
+  pub feeds : length y.lines ≡ 768
 
 -- the HV stations below one
 abbrev pub HVBelow : Network → ℕ → ℕ → Type 0

@@ -72,6 +72,7 @@ impl<'a> Iterator for ClosedEnds<'a> {
 }
 
 // The list of the closed ends at each station, by codes: the first end of each station's list, and the end behind each end.
+// Arrays of codes lie in fixed memory, without a heap: each station's list is a chain through `nexts`.
 #[derive(Drop)]
 struct Lists {
     firsts: [Option<u16>; 512],
@@ -149,27 +150,33 @@ impl Lists {
 pub fn is_of(end: End, fed: Option<usize>) -> bool
     ensures { result ≡ of_feeder fed end }
 {
-    match fed {
-        Some(line) => end.line == line,
-        None => false,
-    }
+    fed == Some(end.line)
 }
 
-// How each line is fed: the side of its near end and the line that feeds its near station, none where that is an HV station. The lines
-// are in an order in which each comes after the one that feeds it.
+// How a line is fed: the side of its near end, and the line that feeds its near station, none where that is an HV station.
+#[derive(Clone, Copy)]
+struct Feed {
+    side: Side,
+    feeder: Option<usize>,
+}
+
+// How each line is fed, and the lines in an order in which each comes after the one that feeds it.
 #[derive(Drop)]
 struct Supply {
-    sides: [Side; 768],
-    feeders: [Option<usize>; 768],
+    lines: [Feed; 768],
     order: ArrayVec<usize, 768>,
 }
 
 impl Supply {
     // Room for the lines, none of them noted.
-    fn new() -> Supply {
+    fn new() -> Supply
+        ensures { result.order.items ≡ [] }
+    {
         Supply {
-            sides: [Side::One; 768],
-            feeders: [None; 768],
+            lines: [Feed {
+                side: Side::One,
+                feeder: None,
+            }; 768],
             order: ArrayVec::new(),
         }
     }
@@ -177,18 +184,17 @@ impl Supply {
     // The near end of a line.
     fn near(&self, line: usize) -> End
         requires { LineHeld line }
-        ensures { result ≡ noted_near self.now line }
+        ensures { result ≡ noted_near self.now.lines line }
     {
         End {
             line,
-            side: self.sides[line - 1],
+            side: self.lines[line - 1].side,
         }
     }
 
     // Notes no line.
     fn clear(&mut self)
-        ensures { (self.new.order.items ≡ []) × (length self.new.sides ≡ 768)
-            × (length self.new.feeders ≡ 768) }
+        ensures { (self.new.order.items ≡ []) × (length self.new.lines ≡ 768) }
     {
         self.order.clear();
     }
@@ -200,8 +206,10 @@ impl Supply {
     {
         for end in ends {
             if !is_of(end, fed) {
-                self.sides[end.line - 1] = end.side;
-                self.feeders[end.line - 1] = fed;
+                self.lines[end.line - 1] = Feed {
+                    side: end.side,
+                    feeder: fed,
+                };
                 self.order.push(end.line);
             }
         }
@@ -241,6 +249,7 @@ impl Supply {
         ensures { Whole net.now self.new }
     {
         self.start(net, lists);
+        // by index, since the order grows while it is passed
         let mut i = 0;
         while i < self.order.len() {
             self.follow(net, lists, i);
@@ -249,7 +258,8 @@ impl Supply {
     }
 }
 
-// The tree of a radial network.
+// The tree of a radial network. It does not borrow its network, beside which it lies in a loaded file, since a value can't borrow from
+// itself: so that it is the network's (`HoldsTree`, and `Linked` of its lists) stands in the clauses.
 #[derive(Drop)]
 pub struct Tree {
     lists: Lists,
@@ -258,7 +268,9 @@ pub struct Tree {
 
 impl Tree {
     // Room for a tree. It is large for a stack, so it is grown where it lies.
-    pub fn new() -> Tree {
+    pub fn new() -> Tree
+        ensures { lines_in result ≡ [] }
+    {
         Tree {
             lists: Lists::new(),
             supply: Supply::new(),
@@ -295,7 +307,7 @@ impl Tree {
         requires { LineHeld line }
         ensures { result ≡ feeder_in self.now line }
     {
-        self.supply.feeders[line - 1]
+        self.supply.lines[line - 1].feeder
     }
 
     // The lines from the HV stations outwards: each comes after the one that feeds it.

@@ -30,7 +30,7 @@ impl fmt::Display for Name<'_> {
     }
 }
 
-// Bytes of a file between quotes, the first 24 of them.
+// Bytes of a file between quotes, the first 24 of them. Other than a name, which is told whole, they say where they were cut.
 #[derive(Clone, Copy, Debug, PartialEq, Eq)]
 pub struct Quoted<'a>(pub &'a [u8]);
 
@@ -47,7 +47,8 @@ impl fmt::Display for Quoted<'_> {
     }
 }
 
-// A lent buffer that texts are written into, one behind the other. What does not fit is left out.
+// A lent buffer that texts are written into, one behind the other. What does not fit is left out. A `Cursor` would count on from a start
+// beyond the buffer as well, but not give the bytes up to there as a part of the buffer.
 #[derive(Drop)]
 pub struct Lent<'a> {
     buffer: &'a mut [u8],

@@ -61,18 +61,15 @@ fn show_strange(rt: &impl Print) -> io::Result<()> {
     show(rt, b"", Refusal::OutOfRange { record: 3 })?;
     show(rt, b"", Refusal::Misplaced { record: 2 })?;
     let absent = Refusal::Malformed { record: 3 };
+    // A lent buffer, which keeps what fits.
     let mut short = [b'_'; 20];
     show_kept(rt, file, absent, &mut short, 4)?;
     show_kept(rt, file, absent, &mut short, usize::MAX)?;
     show_kept(rt, file, absent, &mut [], 0)
 }
 
-// Room for the input.
-fn space() -> [u8; 100000] {
-    [0; 100000]
-}
-
-// The refusal of each file of the input.
+// The refusal of each file of the input. A function of all test programs would take a closure and stand
+// in a crate of its own: that is no plainer.
 fn show_files(rt: &impl Print, input: &[u8]) -> io::Result<()> {
     for part in input.split_inclusive(|&byte| byte == b'=') {
         if let [b'\n', file @ .., b'='] | [file @ .., b'='] = part {
@@ -83,7 +80,8 @@ fn show_files(rt: &impl Print, input: &[u8]) -> io::Result<()> {
 }
 
 fn main(rt: HostRuntime) -> io::Result<()> {
-    let mut input = space();
+    // Room for the input, fixed as that of the program. Each test program reads by these two lines: a function of them would be no plainer.
+    let mut input = [0; 100000];
     let n = input::read(&mut rt.stdin(), &mut input)?;
     show_files(&rt, &input[..n])?;
     show_strange(&rt)

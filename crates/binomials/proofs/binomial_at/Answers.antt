@@ -1,12 +1,7 @@
-use borrow.Author.Rules.{rules}
-use Rattle.binomials.specs.Pascal.{Binomials}
 use Rattle.binomials.proofs.Entries.{entry-is, entry-small}
 use Rattle.binomials.proofs.binomial_at.Goals as goal
 
 pub returns : goal.returns
 returns c =
-    let t = c.args.table.now in
-    let n = c.args.row in
-    let k = c.args.column in
-    let b : Binomials t = search rules in
-    (entry-is t b n k (search rules) (search rules), entry-small t b n k (search rules) (search rules))
+    let (t, n, k) = c.requires in
+    (entry-is c.args.table.now t c.args.row c.args.column n k, entry-small c.args.table.now t c.args.row c.args.column n k)

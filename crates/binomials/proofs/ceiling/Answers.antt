@@ -12,7 +12,7 @@ returns-then-additions-gt16 c = sym (too-many-additions _ _ (omega arith))
 
 -- the test of the whole table, computed
 pub set_count-requires : goal.set_count-requires
-set_count-requires c = (record { long = refl; rule = refl; small = refl }, omega arith, omega arith)
+set_count-requires c = (record { long = refl; rows = refl }, omega arith, omega arith)
 
 pub returns : goal.returns
 returns c = ap (λ (n : ℕ). given n) c.set_count.ensures ∙ sym (within-bounds _ _ (omega arith) (omega arith))

@@ -1,5 +1,4 @@
 use mathlib.Core.Path.{sym, ap, ◌∙◌}
-use borrow.Author.Rules.{rules}
 use Rattle.model.specs.Paths.{is_hv}
 use Rattle.model.specs.Rules.{plain_at_hv}
 use Rattle.end_rules.proofs.is_plain_at_hv.Goals as goal
@@ -13,6 +12,3 @@ returns-then-is_plain c =
 pub returns-else-is_plain : goal.returns-else-is_plain
 unfolding plain_at_hv
 returns-else-is_plain c = rw (sym c.is_plain.ensures ∙ c.if-is_plain.false) c.if-is_plain.false
-
-pub station_of-requires : goal.station_of-requires
-station_of-requires c = search rules

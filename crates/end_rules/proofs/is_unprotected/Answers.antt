@@ -1,5 +1,4 @@
 use mathlib.Core.Path.{sym, ap, ◌∙◌}
-use borrow.Author.Rules.{rules}
 use Rattle.model.specs.Rules.{plain_at_hv, unprotected}
 use Rattle.end_rules.proofs.is_unprotected.Goals as goal
 
@@ -10,9 +9,3 @@ returns-then-is_plain_at_hv c = rw (sym c.is_plain_at_hv.ensures ∙ c.if-is_pla
 pub returns-else-is_plain_at_hv : goal.returns-else-is_plain_at_hv
 unfolding unprotected
 returns-else-is_plain_at_hv c = rw (sym c.is_plain_at_hv.ensures ∙ c.if-is_plain_at_hv.false) (c.is_plain_at_hv-else-is_plain_at_hv.ensures ∙ ap (plain_at_hv c.args.net.now) c.other-two.ensures)
-
-pub is_plain_at_hv-requires : goal.is_plain_at_hv-requires
-is_plain_at_hv-requires c = search rules
-
-pub is_plain_at_hv-requires-else-is_plain_at_hv : goal.is_plain_at_hv-requires-else-is_plain_at_hv
-is_plain_at_hv-requires-else-is_plain_at_hv c = search rules

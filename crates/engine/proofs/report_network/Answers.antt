@@ -1,12 +1,16 @@
+use Rattle.loading.proofs.Held.{is_loaded}
 use Rattle.engine.proofs.report_network.Goals as goal
+
+pub total_of-total-requires : goal.total_of-total-requires
+total_of-total-requires c = ((is_loaded c.args.loaded.now).accepted.read, c.impacts-impacts.ensures)
 
 pub write_report-requires : goal.write_report-requires
 write_report-requires c =
     let w = c.best_plan-plan.ensures in (
       record {
-        planned = record { accepted = c.requires.0.accepted; few = w.few; found = w.found };
+        planned = record { accepted = (is_loaded c.args.loaded.now).accepted; few = w.few; found = w.found };
         holds = c.impacts-impacts.ensures;
         is_total = c.total_of-total.ensures;
       },
-      c.requires.1,
+      c.requires,
     )

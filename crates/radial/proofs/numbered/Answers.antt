@@ -10,5 +10,5 @@ loop-i-preserved c =
     let h = c.loop-i in
     (length-set h.label-items h.i (h.i + 1) ∙ h.invariant.0, number_step h.label-items h.i (omega (arith, h.invariant.0)) h.invariant.1)
 
-pub returns-clause-by_index : goal.returns-clause-by_index
-returns-clause-by_index c = λ k l. c.loop-i.invariant.1 k (omega arith)
+pub returns : goal.returns
+returns c = λ k l. c.loop-i.invariant.1 k (omega arith)

@@ -1,4 +1,3 @@
-use Prim.Native.Nat.{◌-◌}
 use Rattle.text.proofs.Lines.{Begun}
 use Rattle.text.proofs.put_line.Given as goal
 

@@ -4,8 +4,9 @@ use mathlib.Core.Path.{refl, sym, ap, ◌∙◌, subst}
 use native.Mathlib.Omega.{arith}
 use lib.ListN.{length-set}
 use Rattle.model.specs.Paths.{End}
+use Rattle.theory.specs.Gathering.{always}
 use Rattle.tree.specs.Linked.{end_code}
-use Rattle.marks.proofs.Marking.{place-fits, MarkedFrom, always, marks-none, marks-next, marks-all}
+use Rattle.marks.proofs.Marking.{place-fits, MarkedFrom, marks-none, marks-next, marks-all}
 use Rattle.marks.proofs.Marks.mark_places.Goals as goal
 
 pub loop-place-init : goal.loop-place-init

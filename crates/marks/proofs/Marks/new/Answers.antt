@@ -1,6 +1,6 @@
 use Rattle.std.specs.Prelude.{None}
 use Rattle.tree.specs.Linked.{end_code}
-use Rattle.marks.proofs.Marking.{always}
+use Rattle.theory.specs.Gathering.{always}
 use Rattle.marks.proofs.Marks.new.Goals as goal
 
 pub returns : goal.returns

@@ -9,7 +9,7 @@ pub customers-requires : goal.customers-requires
 customers-requires c =
     let d = c.requires.0 in
     let h = c.loop-line in
-    line_held _ d (trip-there _ d c.requires.1 c.args.paths.now c.requires.2 h.line (record { low = omega arith; high = omega (arith, h.invariant.0) }) c.trip_line.result c.trip_line.ensures)
+    line_held _ d (trip-there _ d c.requires.1 h.line (record { low = omega arith; high = omega (arith, h.invariant.0) }) c.args.paths.now c.requires.2 c.trip_line.result c.trip_line.ensures)
 
 pub loop-line-preserved : goal.loop-line-preserved
 loop-line-preserved c =
@@ -20,7 +20,7 @@ loop-line-preserved c =
       omega arith,
       omega arith,
       before-more _ h.self h.line c.customers.result (omega arith) (omega (arith, (read_fits _ d).lines, h.invariant.0))
-          (c.customers.ensures ∙ trip-impact _ d c.requires.1 c.args.paths.now c.requires.2 h.line i c.trip_line.result c.trip_line.ensures c.args.behind.now c.requires.3) h.invariant.3,
+          (c.customers.ensures ∙ trip-impact _ d c.requires.1 h.line i c.args.paths.now c.requires.2 c.trip_line.result c.trip_line.ensures c.args.behind.now c.requires.3) h.invariant.3,
     )
 
 pub returns : goal.returns

@@ -1,6 +1,6 @@
 use Prim.Native.Nat.{◌-◌}
 use mathlib.Core.Path.{ap}
-use Rattle.marks.proofs.Marking.{always}
+use Rattle.theory.specs.Gathering.{always}
 use Rattle.paths.specs.declared.Met.{Met}
 use Rattle.paths.specs.Meets.{no_met}
 use Rattle.paths.proofs.Paths.new.Goals as goal

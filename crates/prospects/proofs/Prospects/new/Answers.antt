@@ -1,5 +1,5 @@
 use Prim.Native.Nat.{◌+◌, ◌*◌}
-use Rattle.marks.proofs.Marking.{always}
+use Rattle.theory.specs.Gathering.{always}
 use Rattle.starts.specs.Outlook.{no_prospect}
 use Rattle.prospects.proofs.Prospects.new.Goals as goal
 

@@ -1,12 +1,10 @@
-use Rattle.std.proofs.Common.{sym, arith}
-use borrow.Author.Tests.{ltb-true, ltb-false}
+use mathlib.Core.Path.{refl, sym}
+use native.Mathlib.Omega.{arith}
 use Rattle.records.proofs.Next.{not-closed, closed-here}
 use Rattle.records.proofs.Records.next_closed.Goals as goal
 
-pub returns-then-not-is_closed-clause-bytes : goal.returns-then-not-is_closed-clause-bytes
-returns-then-not-is_closed-clause-bytes c =
-    sym (not-closed c.args.self.now.rest.now c.part_end-end.result (omega arith) (ltb-false _ _ (sym c.if-not-is_closed.ensures)))
+pub returns-in_err-end-clause-bytes : goal.returns-in_err-end-clause-bytes
+returns-in_err-end-clause-bytes c = rw c.from_residual.ensures (sym (not-closed c.args.self.now.rest.now _ refl (omega (arith, c.in_err-end.ensures))))
 
 pub returns-clause-bytes : goal.returns-clause-bytes
-returns-clause-bytes c =
-    sym (closed-here c.args.self.now.rest.now c.part_end-end.result (omega arith) (ltb-true _ _ (sym c.if-not-is_closed.ensures)))
+returns-clause-bytes c = sym (closed-here c.args.self.now.rest.now c.in_ok-end.end c.in_ok-end.ensures.0 c.in_ok-end.ensures.1)

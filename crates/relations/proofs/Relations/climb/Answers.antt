@@ -4,58 +4,59 @@ use native.Mathlib.Omega.{arith}
 use lib.ListN.{length, set}
 use borrow.Author.Rules.{rules}
 use Rattle.savings.specs.Breakers.{end_at}
+use Rattle.network.specs.Found.{found}
 use Rattle.sets.specs.Onward.{onward}
-use Rattle.marks.specs.Held.{optional}
 use Rattle.relations.specs.declared.Relation.TheVariants.{Behind, Above}
 use Rattle.relations.specs.Climb.{is_above, place_above}
 use Rattle.relations.proofs.Climbing.{number, number-is, some-low, Climbed, level, level-less, climb-start, climb-next, climb-end}
 use Rattle.relations.proofs.Above.{climb-places}
+use Rattle.relations.proofs.Routed.{routed}
 use Rattle.relations.proofs.Relations.climb.Goals as goal
 
 pub loop-next-init : goal.loop-next-init
 loop-next-init c =
     let N = c.args.routes.now.net.now in
-    let r = c.requires.0 in
+    let y = (routed c.args.routes.now).accepted in
     let old = c.args.self.now.between in
     let long : length old ≡ 4225 = search rules in
     let e = ap number c.above-next.ensures ∙ number-is (place_above N c.args.place) in (
-      c.above-next.ensures ∙ ap optional (sym e),
+      c.above-next.ensures ∙ ap found (sym e),
       subst (λ a. Climbed (length N.places) (is_above N) c.args.place a old old) (sym e)
-          (climb-start (length N.places) (is_above N) (place_above N) (λ p. length (onward N (end_at N p))) (climb-places N r.accepted) r.accepted.read.place_count c.args.place (c.requires.1.low, c.requires.1.high) old long),
+          (climb-start (length N.places) (is_above N) (place_above N) (λ p. length (onward N (end_at N p))) (climb-places N y) y.read.place_count c.args.place (c.requires.low, c.requires.high) old long),
     )
 
 pub loop-next-smaller : goal.loop-next-smaller
 loop-next-smaller c =
     let N = c.args.routes.now.net.now in
-    let r = c.requires.0 in
+    let y = (routed c.args.routes.now).accepted in
     let a = c.in-Some.above in
     let height : ℕ → ℕ = λ p. length (onward N (end_at N p)) in
     let was = ap number c.in-Some.is in
-    let low = some-low a (sym c.in-Some.is ∙ c.loop-next.invariant.0 ∙ ap optional was) in
+    let low = some-low a (sym c.in-Some.is ∙ c.loop-next.invariant.0 ∙ ap found was) in
     let e = ap number c.above-next-in-Some.ensures ∙ number-is (place_above N a) in
     subst (λ x. level height (number c.above-next-in-Some.result) < level height x) (sym was)
     (subst (λ x. level height x < level height a) (sym e)
-    (level-less (length N.places) (is_above N) (place_above N) height (climb-places N r.accepted) a (low, omega (arith, was, c.loop-next.invariant.1.high))))
+    (level-less (length N.places) (is_above N) (place_above N) height (climb-places N y) a (low, omega (arith, was, c.loop-next.invariant.1.high))))
 
 pub loop-next-preserved : goal.loop-next-preserved
 loop-next-preserved c =
     let N = c.args.routes.now.net.now in
-    let r = c.requires.0 in
+    let y = (routed c.args.routes.now).accepted in
     let a = c.in-Some.above in
     let p = c.args.place in
     let between = c.loop-next.self.between in
     let was = ap number c.in-Some.is in
-    let low = some-low a (sym c.in-Some.is ∙ c.loop-next.invariant.0 ∙ ap optional was) in
+    let low = some-low a (sym c.in-Some.is ∙ c.loop-next.invariant.0 ∙ ap found was) in
     let e = ap number c.above-next-in-Some.ensures ∙ number-is (place_above N a) in (
-      c.above-next-in-Some.ensures ∙ ap optional (sym e),
+      c.above-next-in-Some.ensures ∙ ap found (sym e),
       subst (λ x. Climbed (length N.places) (is_above N) p x c.args.self.now.between (set (set between (a * 65 + p) Behind) (p * 65 + a) Above)) (sym e)
-          (climb-next (length N.places) (is_above N) (place_above N) (λ p. length (onward N (end_at N p))) (climb-places N r.accepted) r.accepted.read.place_count p (c.requires.1.low, c.requires.1.high) a c.args.self.now.between between low
+          (climb-next (length N.places) (is_above N) (place_above N) (λ p. length (onward N (end_at N p))) (climb-places N y) y.read.place_count p (c.requires.low, c.requires.high) a c.args.self.now.between between low
           (subst (λ x. Climbed (length N.places) (is_above N) p x c.args.self.now.between between) was c.loop-next.invariant.1)),
     )
 
 pub returns : goal.returns
 returns c =
     let N = c.args.routes.now.net.now in
-    let r = c.requires.0 in
-    climb-end (length N.places) (is_above N) (place_above N) (λ p. length (onward N (end_at N p))) (climb-places N r.accepted) r.accepted.read.place_count c.args.place (c.requires.1.low, c.requires.1.high) c.args.self.now.between c.loop-next.self.between
+    let y = (routed c.args.routes.now).accepted in
+    climb-end (length N.places) (is_above N) (place_above N) (λ p. length (onward N (end_at N p))) (climb-places N y) y.read.place_count c.args.place (c.requires.low, c.requires.high) c.args.self.now.between c.loop-next.self.between
     (subst (λ x. Climbed (length N.places) (is_above N) c.args.place x c.args.self.now.between c.loop-next.self.between) (ap number c.in_default.is) c.loop-next.invariant.1)

@@ -1,15 +1,15 @@
 use mathlib.Core.Path.{◌≡◌}
 use lib.ListN.{length}
 use Rattle.savings.specs.Breakers.{end_at}
+use Rattle.network.specs.Found.{found}
 use Rattle.sets.specs.Onward.{onward}
-use Rattle.marks.specs.Held.{optional}
 use Rattle.relations.specs.Climb.{is_above}
 use Rattle.relations.proofs.Climbing.{number, Climbed, level}
 use Rattle.relations.proofs.Relations.climb.Given as goal
 
 abbrev pub invariant-loop-next : goal.invariant-loop-next
 invariant-loop-next l =
-    (l.next ≡ optional (number l.next))
+    (l.next ≡ found (number l.next))
     × Climbed (length l.routes.net.now.places) (is_above l.routes.net.now) l.place (number l.next) l.initial.self.between l.self.between
 
 abbrev pub decreases-loop-next : goal.decreases-loop-next

@@ -1,5 +1,5 @@
 use Prim.Native.Nat.{◌+◌, ◌*◌}
-use Rattle.marks.proofs.Marking.{always}
+use Rattle.theory.specs.Gathering.{always}
 use Rattle.relations.specs.declared.Relation.TheVariants.{Apart}
 use Rattle.relations.proofs.Relations.new.Goals as goal
 

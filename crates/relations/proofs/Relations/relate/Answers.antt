@@ -9,8 +9,9 @@ use Rattle.relations.specs.Lists.{Listed}
 use Rattle.relations.specs.Climb.{is_above, place_above}
 use Rattle.relations.proofs.Climbing.{related-start, related-next, related-all}
 use Rattle.relations.proofs.Listing.{rows_next}
-use Rattle.marks.proofs.Marking.{always}
+use Rattle.theory.specs.Gathering.{always}
 use Rattle.relations.proofs.Above.{climb-places, relations-all}
+use Rattle.relations.proofs.Routed.{routed}
 use Rattle.relations.proofs.Relations.relate.Goals as goal
 
 pub loop-place-init : goal.loop-place-init
@@ -19,7 +20,7 @@ loop-place-init c =
       ap (λ n. n + 1) c.place_count-count.ensures.count,
       omega arith,
       omega arith,
-      related-start (length N.places) (is_above N) (place_above N) (λ p. length (onward N (end_at N p))) (climb-places N c.requires.accepted) (replicate 4225 Apart) (always Apart 4225),
+      related-start (length N.places) (is_above N) (place_above N) (λ p. length (onward N (end_at N p))) (climb-places N (routed c.args.routes.now).accepted) (replicate 4225 Apart) (always Apart 4225),
     )
 
 pub loop-place-preserved : goal.loop-place-preserved
@@ -29,7 +30,7 @@ loop-place-preserved c =
       h.invariant.0,
       omega arith,
       omega arith,
-      related-next (length N.places) (is_above N) (place_above N) (λ p. length (onward N (end_at N p))) (climb-places N c.requires.accepted) h.place (omega arith, omega arith) h.self.between c.climb.new.self.between h.invariant.3 c.climb.ensures,
+      related-next (length N.places) (is_above N) (place_above N) (λ p. length (onward N (end_at N p))) (climb-places N (routed c.args.routes.now).accepted) h.place (omega arith, omega arith) h.self.between c.climb.new.self.between h.invariant.3 c.climb.ensures,
     )
 
 pub loop-place-2-preserved : goal.loop-place-2-preserved
@@ -52,7 +53,7 @@ returns c =
     let h = c.loop-place-2 in
     let i = h.invariant in
     record {
-      each = relations-all N c.requires.accepted h.self (related-all (length N.places) (is_above N) (place_above N) (λ p. length (onward N (end_at N p))) (climb-places N c.requires.accepted) (c.place_count-count.result + 1) (omega (arith, i.0)) h.self.between i.4);
+      each = relations-all N (routed c.args.routes.now).accepted h.self (related-all (length N.places) (is_above N) (place_above N) (λ p. length (onward N (end_at N p))) (climb-places N (routed c.args.routes.now).accepted) (c.place_count-count.result + 1) (omega (arith, i.0)) h.self.between i.4);
       rows = omega (arith, i.3, i.0, i.2);
       later = λ q a b. i.5 q a (omega (arith, i.0));
     }

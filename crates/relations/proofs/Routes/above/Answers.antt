@@ -4,53 +4,55 @@ use Rattle.model.specs.Paths.{End, same_end}
 use Rattle.tree.specs.Linked.{LineHeld}
 use Rattle.tree.specs.Held.{near_in, feeder_in}
 use Rattle.paths.specs.Held.{first_in}
-use Rattle.relations.proofs.Above.{not-true, not-false, line-held, above-far, above-hv, feeder-held, above-fed}
+use Rattle.std.proofs.lemmas.Bool.{not-true, not-false}
+use Rattle.relations.proofs.Above.{line-held, above-far, above-hv, feeder-held, above-fed}
+use Rattle.relations.proofs.Routed.{routed}
 use Rattle.relations.proofs.Routes.above.Goals as goal
 
 pub is_far-requires : goal.is_far-requires
 is_far-requires c =
     let s = c.args.self.now in
-    let r = c.requires.0 in
+    let r = routed s in
     subst LineHeld (sym (ap (λ (e : End). e.line) c.place_end-end.ensures))
-    (line-held s.net.now r.accepted s.tree.now s.firsts.now r.tree r.firsts c.args.place (c.requires.1.low, c.requires.1.high))
+    (line-held s.net.now r.accepted s.tree.now s.firsts.now r.tree r.firsts c.args.place (c.requires.low, c.requires.high))
 
 pub first-requires : goal.first-requires
 first-requires c =
     let s = c.args.self.now in
-    let r = c.requires.0 in
+    let r = routed s in
     subst LineHeld (sym (ap (λ (e : End). e.line) (c.end.view_is ∙ c.place_end-end.ensures)))
-    (line-held s.net.now r.accepted s.tree.now s.firsts.now r.tree r.firsts c.args.place (c.requires.1.low, c.requires.1.high))
+    (line-held s.net.now r.accepted s.tree.now s.firsts.now r.tree r.firsts c.args.place (c.requires.low, c.requires.high))
 
 pub returns-then-is_far : goal.returns-then-is_far
 returns-then-is_far c =
     let s = c.args.self.now in
-    let r = c.requires.0 in
+    let r = routed s in
     c.first.ensures
     ∙ ap (first_in s.firsts.now) (ap (λ (e : End). e.line) (c.end.view_is ∙ c.place_end-end.ensures))
-    ∙ above-far s.net.now r.accepted s.tree.now s.firsts.now r.tree r.firsts c.args.place (c.requires.1.low, c.requires.1.high)
+    ∙ above-far s.net.now r.accepted s.tree.now s.firsts.now r.tree r.firsts c.args.place (c.requires.low, c.requires.high)
     (not-true _ (sym (c.is_far.ensures ∙ ap (λ (e : End). not (same_end e (near_in s.tree.now e.line))) c.place_end-end.ensures) ∙ c.if-is_far.true))
 
 pub feeder-requires : goal.feeder-requires
 feeder-requires c =
     let s = c.args.self.now in
-    let r = c.requires.0 in
+    let r = routed s in
     subst LineHeld (sym (ap (λ (e : End). e.line) (c.end.view_is ∙ c.place_end-end.ensures)))
-    (line-held s.net.now r.accepted s.tree.now s.firsts.now r.tree r.firsts c.args.place (c.requires.1.low, c.requires.1.high))
+    (line-held s.net.now r.accepted s.tree.now s.firsts.now r.tree r.firsts c.args.place (c.requires.low, c.requires.high))
 
 pub returns-in_err-feeder : goal.returns-in_err-feeder
 returns-in_err-feeder c =
     let s = c.args.self.now in
-    let r = c.requires.0 in
+    let r = routed s in
     c.from_residual.ensures
-    ∙ above-hv s.net.now r.accepted s.tree.now s.firsts.now r.tree r.firsts c.args.place (c.requires.1.low, c.requires.1.high)
+    ∙ above-hv s.net.now r.accepted s.tree.now s.firsts.now r.tree r.firsts c.args.place (c.requires.low, c.requires.high)
     (not-false _ (sym (c.is_far.ensures ∙ ap (λ (e : End). not (same_end e (near_in s.tree.now e.line))) c.place_end-end.ensures) ∙ c.if-is_far.false))
     (sym (c.feeder.ensures ∙ ap (feeder_in s.tree.now) (ap (λ (e : End). e.line) (c.end.view_is ∙ c.place_end-end.ensures))) ∙ c.in_err-feeder.was)
 
 pub first_beyond-requires : goal.first_beyond-requires
 first_beyond-requires c =
     let s = c.args.self.now in
-    let r = c.requires.0 in
-    feeder-held s.net.now r.accepted s.tree.now s.firsts.now r.tree r.firsts c.args.place (c.requires.1.low, c.requires.1.high)
+    let r = routed s in
+    feeder-held s.net.now r.accepted s.tree.now s.firsts.now r.tree r.firsts c.args.place (c.requires.low, c.requires.high)
     (not-false _ (sym (c.is_far.ensures ∙ ap (λ (e : End). not (same_end e (near_in s.tree.now e.line))) c.place_end-end.ensures) ∙ c.if-is_far.false))
     c.in_ok-feeder.feeder
     (sym (c.feeder.ensures ∙ ap (feeder_in s.tree.now) (ap (λ (e : End). e.line) (c.end.view_is ∙ c.place_end-end.ensures))) ∙ c.in_ok-feeder.was)
@@ -58,9 +60,9 @@ first_beyond-requires c =
 pub returns : goal.returns
 returns c =
     let s = c.args.self.now in
-    let r = c.requires.0 in
+    let r = routed s in
     c.first_beyond.ensures
-    ∙ above-fed s.net.now r.accepted s.tree.now s.firsts.now r.tree r.firsts c.args.place (c.requires.1.low, c.requires.1.high)
+    ∙ above-fed s.net.now r.accepted s.tree.now s.firsts.now r.tree r.firsts c.args.place (c.requires.low, c.requires.high)
     (not-false _ (sym (c.is_far.ensures ∙ ap (λ (e : End). not (same_end e (near_in s.tree.now e.line))) c.place_end-end.ensures) ∙ c.if-is_far.false))
     c.in_ok-feeder.feeder
     (sym (c.feeder.ensures ∙ ap (feeder_in s.tree.now) (ap (λ (e : End). e.line) (c.end.view_is ∙ c.place_end-end.ensures))) ∙ c.in_ok-feeder.was)

@@ -1,7 +1,7 @@
 use Prim.Native.Nat.{ℕ}
 use mathlib.Core.Path.{refl}
 use native.Mathlib.Omega.{arith}
-use Rattle.search.proofs.Extending.{Halfway, some, trying, not-deeper, entering-v, extending, deeper, seeking, going-on}
+use Rattle.search.proofs.Extending.{Halfway, some, trying, not-deeper, entering-v, extending, deeper, seeking, leaving, going-on}
 use Rattle.search.proofs.Walk.+extend.Goals as goal
 use Rattle.search.proofs.Walk.+extend.Goals.{Joined-goes_deeper, then-goes_deeper, else-goes_deeper}
 
@@ -30,3 +30,6 @@ next_after-next-requires t c = seeking c.requires c.loop-next.invariant c.in-Som
 
 pub loop-next-preserved : goal.loop-next-preserved
 loop-next-preserved t c = going-on c.requires c.loop-next.invariant c.in-Some.is (half t c.before.before.before) c.pop.ensures.rest _ refl refl refl c.next_after-next.ensures
+
+pub leave-requires : goal.leave-requires
+leave-requires t c = leaving c.requires c.loop-next.invariant.keeps

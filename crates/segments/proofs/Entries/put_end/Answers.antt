@@ -11,14 +11,13 @@ pub put_entry-requires : goal.put_entry-requires
 put_entry-requires c =
     let s = c.args.self.now in
     let h = sym c.has_entry.ensures ∙ c.if-has_entry.true in
-    (c.requires.room, amount-fits s.net.now c.args.end s.behind.now s.weights.now c.requires.ready.0 c.requires.ready.1 h _ _ c.at-weight.ensures (c.customers.ensures ∙ ap (λ (f : End). customers_in s.behind.now f.line) c.end.view_is))
+    (c.requires.room, amount-fits s.net.now c.args.end s.behind.now s.weights.now s.summed c.requires.there h _ _ c.at-weight.ensures (c.customers.ensures ∙ ap (λ (f : End). customers_in s.behind.now f.line) c.end.view_is))
 
 pub returns-then-has_entry : goal.returns-then-has_entry
 returns-then-has_entry c =
     let s = c.args.self.now in
     let h = sym c.has_entry.ensures ∙ c.if-has_entry.true in
-    let i = entry-is s.net.now c.args.end s.behind.now s.weights.now c.requires.ready.0 c.requires.ready.1 h _ _ c.at-weight.ensures (c.customers.ensures ∙ ap (λ (f : End). customers_in s.behind.now f.line) c.end.view_is) _ _
-    (ap (λ (f : End). f.line) c.end.view_is) (c.number.ensures ∙ ap (λ (f : End). f.side) c.end.view_is) in
+    let i = entry-is s.net.now c.args.end s.behind.now s.weights.now s.summed c.requires.there h _ _ c.at-weight.ensures (c.customers.ensures ∙ ap (λ (f : End). customers_in s.behind.now f.line) c.end.view_is) in
     record { written = same_text _ _ c.args.table.now _ 5 i (refl, c.put_entry.ensures); short = omega arith }
 
 pub returns : goal.returns

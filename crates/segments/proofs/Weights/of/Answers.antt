@@ -4,7 +4,8 @@ use Rattle.network.specs.There.{LineThere}
 use Rattle.paths.specs.Held.{trip_in}
 use Rattle.theory.specs.Gathering.{gathered_none}
 use Rattle.tree.proofs.Fitting.{line_held}
-use Rattle.segments.proofs.Gathering.{Noted, noted_more, noted-fits, trip-there, code-is, noted-all}
+use Rattle.outage.proofs.Breakers.{trip-there}
+use Rattle.segments.proofs.Gathering.{Noted, noted_more, noted-fits, code-is, noted-all}
 use Rattle.segments.proofs.Weights.of.Goals as goal
 
 pub loop-line-init : goal.loop-line-init
@@ -16,7 +17,7 @@ trip_code-code-requires c =
     let a = c.requires.0 in
     let l = c.loop-line.line in
     let i : LineThere N l = record { low = omega arith; high = omega (arith, c.loop-line.invariant.0) } in
-    (line_held N a.read i, line_held N a.read (trip-there N a.read a.rules l i (trip_in c.args.paths.now l) (c.requires.1.trips l i)))
+    (line_held N a.read i, line_held N a.read (trip-there N a.read a.rules l i c.args.paths.now c.requires.1 (trip_in c.args.paths.now l).line refl))
 
 pub overflow_add-weights : goal.overflow_add-weights
 overflow_add-weights c =

@@ -1,4 +1,4 @@
-use Rattle.marks.proofs.Marking.{always}
+use Rattle.theory.specs.Gathering.{always}
 use Rattle.starts.specs.Outlook.{no_prospect}
 use Rattle.starts.proofs.Outlook.new.Goals as goal
 

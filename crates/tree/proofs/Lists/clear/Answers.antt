@@ -1,5 +1,6 @@
-use Rattle.tree.proofs.Linking.{nones}
+use Rattle.std.specs.Prelude.{None}
+use Rattle.theory.specs.Gathering.{always}
 use Rattle.tree.proofs.Lists.clear.Goals as goal
 
 pub returns : goal.returns
-returns c = nones 512
+returns c = always None 512

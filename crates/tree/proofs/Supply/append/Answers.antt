@@ -15,18 +15,8 @@ bounds-self-end-inside c =
     let f = subst (λ es. Following c.args.self.now c.args.fed c.args.ends c.loop-end.self es) c.in-Some.ensures.steps c.loop-end.invariant.2 in
     omega (arith, following-line f, ap (λ e. e.line) c.end.view_is)
 
-pub overflow_sub-fed : goal.overflow_sub-fed
-overflow_sub-fed c =
-    let f = subst (λ es. Following c.args.self.now c.args.fed c.args.ends c.loop-end.self es) c.in-Some.ensures.steps c.loop-end.invariant.2 in
-    omega (arith, following-line f, ap (λ e. e.line) c.end.view_is)
-
 pub offset_bounds-self-end-inside : goal.offset_bounds-self-end-inside
 offset_bounds-self-end-inside c =
-    let f = subst (λ es. Following c.args.self.now c.args.fed c.args.ends c.loop-end.self es) c.in-Some.ensures.steps c.loop-end.invariant.2 in
-    omega (arith, following-line f, ap (λ e. e.line) c.end.view_is)
-
-pub bounds-self-end-inside-then-not-is_of : goal.bounds-self-end-inside-then-not-is_of
-bounds-self-end-inside-then-not-is_of c =
     let f = subst (λ es. Following c.args.self.now c.args.fed c.args.ends c.loop-end.self es) c.in-Some.ensures.steps c.loop-end.invariant.2 in
     omega (arith, following-line f, ap (λ e. e.line) c.end.view_is)
 
@@ -44,9 +34,8 @@ loop-end-preserved-then-not-is_of c =
     let side : i.side ≡ side_of c.in-Some.end.side = sym (side_again i.side) ∙ ap (λ e. side_of e.side) c.end.view_is in (
       tt,
       tt,
-      following-add f (sym c.is_of.ensures ∙ c.if-not-is_of.true) (record { sides = set y.sides (i.line - 1) i.side; feeders = set y.feeders (i.line - 1) c.args.fed; order = c.push.new.self })
-          (ap (λ n. set y.sides (n - 1) i.side) line ∙ ap (set y.sides (c.in-Some.end.line - 1)) side)
-          (ap (λ n. set y.feeders (n - 1) c.args.fed) line)
+      following-add f (sym c.is_of.ensures ∙ c.if-not-is_of.true) (record { lines = set y.lines (i.line - 1) (record { side = i.side; feeder = c.args.fed }); order = c.push.new.self })
+          (λ j. set y.lines (line j - 1) (record { side = side j; feeder = c.args.fed }))
           (c.push.ensures.items ∙ ap (λ n. y.order.items ++ (n ∷ [])) line),
     )
 

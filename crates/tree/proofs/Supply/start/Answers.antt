@@ -4,7 +4,7 @@ use Rattle.tree.proofs.Supply.start.Goals as goal
 use Rattle.tree.proofs.Supply.start.Goals.{then-is_hv, else-is_hv}
 
 pub loop-station-init : goal.loop-station-init
-loop-station-init c = (omega (arith, c.station_count-station-end.ensures.count), omega arith, omega arith, queue-start _ c.requires.0 c.requires.1 c.clear.new.self c.clear.ensures.0 c.clear.ensures.1 c.clear.ensures.2)
+loop-station-init c = (omega (arith, c.station_count-station-end.ensures.count), omega arith, omega arith, queue-start _ c.requires.0 c.requires.1 c.clear.new.self c.clear.ensures.0 c.clear.ensures.1)
 
 pub closed_ends-requires : goal.closed_ends-requires
 closed_ends-requires c = let h = c.loop-station in linked-has _ c.requires.0 c.args.lists.now c.requires.2 h.station (omega arith, omega (arith, h.invariant.0))

@@ -1,0 +1,6 @@
+use Prim.Native.Nat.{◌-◌}
+use Rattle.theory.specs.Gathering.{always}
+use Rattle.outage.proofs.Impacts.new.Goals as goal
+
+pub returns : goal.returns
+returns c = λ l. always 0 768 (l - 1)

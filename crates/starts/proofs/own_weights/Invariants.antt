@@ -1,8 +1,0 @@
-use Prim.Native.Nat.{◌+◌, ◌≤◌}
-use mathlib.Core.Path.{◌≡◌}
-use lib.ListN.{length}
-use Rattle.starts.proofs.Gathering.{Weighed}
-use Rattle.starts.proofs.own_weights.Given as goal
-
-abbrev pub invariant-loop-line : goal.invariant-loop-line
-invariant-loop-line l = (l.line-end ≡ length l.routes.net.now.lines + 1) × (1 ≤ l.line) × (l.line ≤ l.line-end) × (length l.own ≡ 65) × Weighed l.routes.net.now l.line-end l.own l.line
