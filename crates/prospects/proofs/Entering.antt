@@ -14,7 +14,7 @@ use Rattle.relations.specs.declared.Relation.{Relation}
 use Rattle.relations.specs.declared.Relation.TheVariants.{Apart, Behind, Above}
 use Rattle.relations.specs.declared.Relations.{Relations}
 use Rattle.relations.specs.Lists.{Row, Listed}
-use Rattle.relations.specs.Related.{between_in, later_in, row_count}
+use Rattle.relations.specs.Related.{between_in, later_in}
 use Rattle.starts.specs.declared.Prospect.{Prospect}
 use Rattle.starts.specs.declared.Outlook.{Outlook}
 use Rattle.starts.specs.Outlook.{Values, HoldsOutlook, prospect_of}
@@ -23,7 +23,7 @@ use Rattle.prospects.specs.Changes.{SameBefore, Same, Changed}
 use Rattle.prospects.specs.Chosen.{Later, Entering}
 use Rattle.prospects.proofs.OneMore.{nth}
 use Rattle.prospects.proofs.Outlooks.{later_of, values-kept}
-use Rattle.prospects.proofs.Undoing.{Put, Keeping, changed-none, changed-more}
+use Rattle.prospects.proofs.Undoing.{Put, Keeping, changed-more}
 
 -- a place whose prospect is the same has the same values
 pub values_same : {N : Network} {S : List ℕ} {old new : Outlook} {p : ℕ} → Same old new p → Values N S p old → Values N S p new
@@ -61,12 +61,6 @@ module _ {N : Network} {relations : Relations} {S : List ℕ} {row last : ℕ} {
 
   pub row-of : Row ps last 65
   row-of = row-wide (omega (arith, places-few)) own.row
-
-  pub last-there : (1 ≤ last) × (last ≤ row_count relations)
-  last-there = (x.without.low, omega (arith, x.chosen.high, x.chosen.related.rows))
-
-  pub written_none : Written N ps S row old.outlook old.kept 0 old.outlook old.kept
-  written_none = record { changed = changed-none row-of; values = λ j a. absurd (omega arith); below = λ k h. refl }
 
   module _ {i : ℕ} {outlook : Outlook} {rows : List Prospect} (w : Written N ps S row old.outlook old.kept i outlook rows) where
     module _ (h : i < length ps) where

@@ -1,9 +1,8 @@
 -- Changes of an outlook, place after place, and their undoing.
 use Prim.Native.Nat.{ℕ, ◌+◌, ◌*◌, ◌≤◌, ◌<◌}
-use mathlib.Core.Path.{◌≡◌, refl, sym, ap, ◌∙◌}
+use mathlib.Core.Path.{◌≡◌, refl, sym, ◌∙◌}
 use mathlib.Core.Logic.{◌≢◌, ⊎_elim}
 use mathlib.Core.List.{List}
-use native.Mathlib.Decide.{ℕ_discrete}
 use native.Mathlib.Nat.{eq-or-lt_of_le}
 use native.Mathlib.Omega.{arith}
 use lib.ListN.{length, get_or, set}
@@ -12,7 +11,7 @@ use Rattle.relations.specs.Lists.{Row}
 use Rattle.starts.specs.declared.Prospect.{Prospect}
 use Rattle.starts.specs.declared.Outlook.{Outlook}
 use Rattle.starts.specs.Outlook.{no_prospect, prospect_of}
-use Rattle.prospects.specs.Changes.{kept_at, SameBefore, Same, AllSame, Changed}
+use Rattle.prospects.specs.Changes.{kept_at, SameBefore, Same, Changed}
 
 -- a prospect is written in an outlook, and no other's
 pub record Put (place : ℕ) (v : Prospect) (old new : Outlook) : Type 0 where
@@ -53,26 +52,9 @@ module _ {ps : List ℕ} {q row : ℕ} (r : Row ps q 65) where
           (eq-or-lt_of_le {n = j} {m = i} (omega arith));
     }
 
-  -- one place is put back
-  pub changed-less : {i : ℕ} {old outlook outlook' : Outlook} {rows : List Prospect} → i < length ps
-      → Put (get_or ps i 0) (kept_at rows row (get_or ps i 0)) outlook outlook'
-      → Changed ps row i (length ps) old outlook rows → Changed ps row (i + 1) (length ps) old outlook' rows
-  changed-less {i} {old} {outlook} {outlook'} {rows} high p c = record {
-    same = λ s h n. at s h n (ℕ_discrete s (get_or ps i 0));
-    kept = λ j a b. c.kept j (omega arith) b;
-  }
-    where
-      at : (s : ℕ) → s ≤ 64 → ((j : ℕ) → i + 1 ≤ j → j < length ps → get_or ps j 0 ≡ s → ⊥) → Dec (s ≡ get_or ps i 0) → Same old outlook' s
-      at s h n (yes e) = rw e (p.own ∙ c.kept i (omega arith) high)
-      at s h n (no d) = p.others s h d ∙ c.same s h (λ j a b e. ⊎_elim (λ k. d (sym e ∙ ap (λ m. get_or ps m 0) (sym k))) (λ k. n j (omega arith) b e) (eq-or-lt_of_le {n = i} {m = j} a))
-
   -- what is kept stays while the rows after it change
   pub changed-kept : {b : ℕ} {old outlook : Outlook} {rows rows' : List Prospect} → b ≤ length ps → SameBefore (row + 1) rows rows' → Changed ps row 0 b old outlook rows → Changed ps row 0 b old outlook rows'
   changed-kept w s c = record {
     same = c.same;
     kept = λ i a h. s (row * 65 + get_or ps i 0) (omega (arith, r.later i (omega arith))) ∙ c.kept i a h;
   }
-
-  -- nothing is changed any more
-  pub changed-back : {a b : ℕ} {old outlook : Outlook} {rows : List Prospect} → b ≤ a → Changed ps row a b old outlook rows → AllSame old outlook
-  changed-back d c = λ p h. c.same p h (λ j x y e. omega arith)

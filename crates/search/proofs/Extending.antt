@@ -97,9 +97,6 @@ module _ {ps : List ℕ} {q row n : ℕ} (r : Row ps q 65) (h : n ≤ length ps)
   changed-after : (a b : Outlook) {old : Outlook} {rows : List Prospect} → AllSame a b → Changed ps row 0 n old a rows → Changed ps row 0 n old b rows
   changed-after a b f c = record { same = λ p l m. f p l ∙ c.same p l m; kept = c.kept }
 
-pub saves-next : {N : Network} {S : List ℕ} {at : Current} {place : ℕ} {next : Current} → Next N S at place next → next.saved.0 ≤ total N
-saves-next n = omega (arith, n.saved)
-
 module _ {w : Walk} {at : Current} {from left : ℕ} {old : Course} (x : Extending w old at from left) where
   abbrev N : Network
   N = w.tables.net.now

@@ -1,6 +1,6 @@
 -- The search for the next place that a set may get.
 use Prim.Native.Nat.{ℕ, ◌+◌, ◌-◌, ◌≤◌}
-use mathlib.Core.Path.{◌≡◌, refl, sym, ap, ◌∙◌}
+use mathlib.Core.Path.{◌≡◌, sym, ap, ◌∙◌}
 use mathlib.Core.Bool.{true, false}
 use mathlib.Core.List.{List, [], ◌∷◌, ◌++◌}
 use native.Mathlib.Omega.{arith}
@@ -32,13 +32,7 @@ module _ {N : Network} {relations : Relations} {bounds : Bounds} {outlook : Outl
   pub few : left ≤ 16
   few = omega (arith, x.few, x.standing.chosen.accepted.read.head.adds.high)
 
-  pub passed_none : Passed N S from left p from
-  passed_none = record { low = omega arith; high = x.high; same = λ f e h. refl }
-
   module _ {place : ℕ} (g : Passed N S from left p place) where
-    pub positive : 1 ≤ place
-    positive = omega (arith, x.low, g.low)
-
     -- the walk goes no further
     pub sought-none : Barren N p.spent p.saved.0 at.saved.0 place left → Sought N S at.saved.0 from left p None
     sought-none b = λ f e k. sym (barren N S left place f at.saved.0 x.counted.saved k x.standing.saved (rw e b)) ∙ g.same f e k

@@ -17,8 +17,7 @@ use Rattle.savings.specs.First.{this}
 use Rattle.savings.specs.Breakers.{end_at}
 use Rattle.theory.specs.Ends.{any-in, in-numbers, numbers-in}
 use Rattle.theory.specs.Best.{Accepted}
-use Rattle.sets.specs.Ways.{has}
-use Rattle.sets.specs.Apart.{place_ends, ends-apart}
+use Rattle.sets.specs.Apart.{ends-apart}
 use Rattle.marks.specs.Held.{place_on}
 
 -- the first element that passes a test is one that does, if any does
@@ -59,10 +58,6 @@ module _ (N : Network) where
 
   pub on-most : (e : End) → place_on N e ≤ length N.places
   on-most e = ⊎_elim (λ x. omega (arith, x.0)) (λ x. (in_place (place_on N e) x.0).1) (on-cases e)
-
-  -- whether a place is on an end
-  has-place : (e : End) → any (λ p. same_end (end_at N p) e) (place_numbers N) ≡ has e (place_ends N)
-  has-place e = sym (any-map (λ d. same_end d e) (λ p. end_at N p) (place_numbers N))
 
   -- it is the place whose end that is
   pub on-is : Accepted N → (p : ℕ) → 1 ≤ p → p ≤ length N.places → (e : End) → eqb (place_on N e) p ≡ same_end (end_at N p) e
