@@ -54,13 +54,6 @@ code_other e c h n = go (same_end e (code_end c)) refl
 abbrev pub Below : (ℕ → Option ℕ) → List (Option ℕ) → ℕ → Type 0
 Below f out k = (p : ℕ) → 1 ≤ p → p < k → get_or out p None ≡ f p
 
-pub below_next : (f : ℕ → Option ℕ) (out : List (Option ℕ)) (k : ℕ) (r : Option ℕ) → k < length out → r ≡ f k → Below f out k → Below f (set out k r) (k + 1)
-below_next f out k r l e b p i j = go (ℕ_discrete p k)
-  where
-    go : Dec (p ≡ k) → get_or (set out k r) p None ≡ f p
-    go (yes q) = ap (λ n. get_or (set out k r) n None) q ∙ get_or-set_same out k r None l ∙ e ∙ ap f (sym q)
-    go (no q) = get_or-set_other out k p r None q ∙ b p i (omega arith)
-
 -- ── marks ──
 -- the places with numbers from k on are marked
 abbrev pub MarkedFrom : Network → List (Option ℕ) → ℕ → Type 0

@@ -8,12 +8,11 @@ use Rattle.std.specs.Prelude.{Some}
 use Rattle.model.specs.Network.{Network}
 use Rattle.model.specs.Paths.{End, is_open, station_at}
 use Rattle.theory.specs.Behind.{far, station_sum, line_sum}
-use Rattle.network.specs.There.{LineThere}
 use Rattle.tree.specs.Outwards.{near_end}
 use Rattle.outage.specs.declared.Behind.{Behind}
 use Rattle.outage.specs.Below.{Ready, Leaves, AtLine, AtStation, Filled}
 use Rattle.tree.specs.declared.Tree.{Tree}
-use Rattle.outage.proofs.Paths.{near-line, line-levels, at-far}
+use Rattle.outage.proofs.Paths.{line-levels, at-far}
 use Rattle.outage.proofs.Filling.{filled_none, filled-line}
 
 module _ (N : Network) (e : End) where
@@ -28,9 +27,6 @@ module _ (N : Network) (e : End) where
   closed-sum (suc k) h q = ap (λ j. station_sum N j (far e) (station_at N (far e))) {x = suc k - 1} {y = k} (omega arith) ∙ rw (line_sum, q)
 
 module _ {N : Network} {t : Tree} (y : Ready N t) {l k : ℕ} (a : AtLine N l k) (f : End) (p : f ≡ far (near_end N l)) where
-  pub far-there : LineThere N f.line
-  far-there = subst (LineThere N) (sym (ap (λ (x : End). x.line) p ∙ near-line N y.read y.rules l a.there)) a.there
-
   pub line-left : 1 ≤ k
   line-left = line-levels N y.read y.rules l k a
 

@@ -9,17 +9,17 @@ use Rattle.theory.specs.Radial.{Rules}
 use Rattle.theory.specs.Behind.{far}
 use Rattle.network.specs.There.{LineThere}
 use Rattle.tree.specs.Outwards.{near_end}
-use Rattle.tree.specs.Held.{HoldsTree}
+use Rattle.tree.specs.Held.{HoldsEnds}
 use Rattle.tree.specs.Queue.{of_feeder}
 use Rattle.tree.specs.declared.Tree.{Tree}
 use Rattle.outage.specs.declared.Behind.{Behind}
 use Rattle.outage.specs.Held.{customers_in}
 
--- a network that is read and keeps the rules, with its tree
+-- a network that is read and keeps the rules, with the lists of its closed ends
 pub record Ready (N : Network) (t : Tree) : Type 0 where
   pub read : Read N
   pub rules : Rules N
-  pub tree : HoldsTree N t
+  pub ends : HoldsEnds N t
 
 -- the end by which we come to a station: the far end of a line, none at an HV station
 abbrev pub came_end : Network → Option ℕ → End

@@ -11,7 +11,7 @@ ghost use Rattle.theory.specs.Behind.{station_sum, line_sum};
 ghost use Rattle.network.specs.There.{LineThere};
 ghost use Rattle.tree.specs.Linked.{LineHeld};
 ghost use Rattle.tree.specs.Outwards.{near_end};
-ghost use Rattle.tree.specs.Held.{HoldsTree};
+ghost use Rattle.tree.specs.Held.{HoldsEnds};
 ghost use Rattle.paths.specs.Held.{trip_in, HoldsPaths};
 ghost use Rattle.outage.specs.Held.{customers_in, HoldsCustomers, impact_in, HoldsImpacts};
 ghost use Rattle.outage.specs.Below.{Ready, came_end, Leaves, AtLine, AtStation, Filled};
@@ -84,7 +84,7 @@ impl Behind {
         let mut sum = net.customers(station);
         for end in tree.closed_ends(station) {
             if !tree::is_of(end, came) {
-                let behind = self.line_sum(net, tree, end.line, levels - 1);
+                let behind = self.line_sum(net, tree, end, levels - 1);
                 sum = with_those_behind(sum, behind);
             }
         }
@@ -94,24 +94,24 @@ impl Behind {
     // The customers behind a line that we come to by its near end: those behind its far station, or none if its far end is open.
     // They are noted, with those of the lines beyond.
     #[cycle(line_sum_station_sum)]
-    fn line_sum(&mut self, net: &Network, tree: &Tree, line: usize, levels: usize) -> u64
-        requires { Ready net.now tree.now × AtLine net.now line levels }
-        ensures { (result ≡ line_sum net.now levels (near_end net.now line))
-            × Filled net.now (λ d. d ≡ near_end net.now line) self.old self.new }
+    fn line_sum(&mut self, net: &Network, tree: &Tree, near: End, levels: usize) -> u64
+        requires { Ready net.now tree.now × AtLine net.now near.line levels × (near ≡ near_end net.now near.line) }
+        ensures { (result ≡ line_sum net.now levels near)
+            × Filled net.now (λ d. d ≡ near) self.old self.new }
     {
-        let far = tree.far(line);
+        let far = near.other();
         let sum = if hangs(net, far) {
             0
         } else {
-            self.station_sum(net, tree, Some(line), net.end_station(far), levels - 1)
+            self.station_sum(net, tree, Some(near.line), net.end_station(far), levels - 1)
         };
-        self.customers[line - 1] = sum;
+        self.customers[near.line - 1] = sum;
         sum
     }
 
-    // Sums the customers behind each line of a network, from the HV stations outwards.
+    // Sums the customers behind each line of a network, from the HV stations outwards, by the tree's lists of closed ends.
     pub fn sum(&mut self, net: &Network, tree: &Tree)
-        requires { Read net.now × Rules net.now × HoldsTree net.now tree.now }
+        requires { Read net.now × Rules net.now × HoldsEnds net.now tree.now }
         ensures { HoldsCustomers net.now self.new }
     {
         let levels = 2 * net.line_count() + 1;

@@ -102,8 +102,7 @@ module _ (M N : Network) (s : Same M N) where
   tree-same t o = record {
     stations = subst (λ (xs : List Station). length xs ≤ 512) (sym s.stations) o.stations;
     lines = omega (arith, o.lines, s.line_count);
-    has = λ k h. o.has k (station-in h);
-    ends = λ k h. o.ends k (station-in h) ∙ sym (ends_at-same k);
+    linked = record { has = λ k h. o.linked.has k (station-in h); ends = λ k h. o.linked.ends k (station-in h) ∙ sym (ends_at-same k) };
     nears = λ l h. o.nears l (line-in h) ∙ sym (near_end-same l);
     feeds = λ l h. o.feeds l (line-in h) ∙ sym (fed_by-same l);
     count = o.count ∙ sym s.line_count;

@@ -26,7 +26,7 @@ use Rattle.prospects.proofs.Outlooks.{later_of, values-kept}
 use Rattle.prospects.proofs.Undoing.{Put, Keeping, changed-more}
 
 -- a place whose prospect is the same has the same values
-pub values_same : {N : Network} {S : List ℕ} {old new : Outlook} {p : ℕ} → Same old new p → Values N S p old → Values N S p new
+values_same : {N : Network} {S : List ℕ} {old new : Outlook} {p : ℕ} → Same old new p → Values N S p old → Values N S p new
 values_same s v = record {
   upstream = ap (λ (x : Prospect). x.upstream) s ∙ v.upstream;
   weight = ap (λ (x : Prospect). x.weight) s ∙ v.weight;
@@ -57,7 +57,7 @@ module _ {N : Network} {relations : Relations} {S : List ℕ} {row last : ℕ} {
   places-few = x.chosen.accepted.read.place_count
 
   own : Listed relations.between last (length N.places + 1) ps
-  own = x.chosen.related.later last x.without.low x.chosen.high
+  own = x.chosen.related.later.each last x.without.low x.chosen.high
 
   pub row-of : Row ps last 65
   row-of = row-wide (omega (arith, places-few)) own.row

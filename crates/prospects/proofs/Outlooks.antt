@@ -5,6 +5,7 @@ use mathlib.Core.Logic.{inl, inr, ⊎_elim}
 use mathlib.Core.Bool.{Bool, true, false, true≢false}
 use mathlib.Core.List.{List}
 use native.Mathlib.Omega.{arith}
+use denote.Enum.Bare.{sameb, same_true, same_false}
 use lib.ListN.{length}
 use Rattle.std.specs.Prelude.{Option, None, Some}
 use Rattle.std.specs.Option.{unwrap_or}
@@ -20,9 +21,12 @@ use Rattle.theory.specs.Behind.{vertices}
 use Rattle.sets.specs.Ways.{has}
 use Rattle.sets.specs.InSeries.{most-less}
 use Rattle.sets.specs.Sets.{upstream_at, weight_at, in_series_at, series-set}
+use Rattle.relations.specs.declared.Relation.{Relation}
 use Rattle.relations.specs.declared.Relation.TheVariants.{Apart, Behind, Above}
+use Rattle.relations.specs.contracts.Relation.{the_type}
 use Rattle.relations.specs.declared.Relations.{Relations}
 use Rattle.relations.specs.Related.{relation, between_in}
+use Rattle.starts.specs.declared.Prospect.{Prospect}
 use Rattle.starts.specs.declared.Outlook.{Outlook}
 use Rattle.starts.specs.Outlook.{Values, prospect_of}
 use Rattle.prospects.specs.Chosen.{Chosen, Without, Pending, Later}
@@ -95,37 +99,48 @@ module _ {N : Network} {relations : Relations} {outlook : Outlook} {S : List ℕ
     alike-back : upstream_at N w.rest d ≡ upstream_at N w.rest (end_at N last) → Alike
     alike-back c = u.upstream ∙ c ∙ sym v.upstream ∙ ap (λ r. (prospect_of outlook r).upstream) (sym lastly.0)
 
-    pub alike-yes : {r : Bool} → r ≡ same_end (prospect_of outlook p).upstream (prospect_of outlook q).upstream → r ≡ true → Alike
-    alike-yes g h = same_end-eq (prospect_of outlook p).upstream (prospect_of outlook q).upstream (sym g ∙ h)
+    -- and the place stands so to the last member
+    abbrev Meets : Relation → Type 0
+    Meets k = (between_in relations q p ≡ k) × Alike
 
-    pub alike-no : {r : Bool} → r ≡ same_end (prospect_of outlook p).upstream (prospect_of outlook q).upstream → r ≡ false → Alike → ⊥
-    alike-no g h c = true≢false (sym (ap (λ e. same_end e (prospect_of outlook q).upstream) c ∙ same_end-refl (prospect_of outlook q).upstream) ∙ sym g ∙ h)
+    -- the test of the upstream breakers, and what it says together with that of how the two places stand
+    abbrev alike_in : Bool
+    alike_in = same_end (prospect_of outlook p).upstream (prospect_of outlook q).upstream
+
+    pub meets : {r k : Relation} → r ≡ between_in relations q p → true ≡ sameb the_type r k → true ≡ alike_in → Meets k
+    meets {r} {k} e s a = (sym e ∙ same_true the_type tt r k (sym s), same_end-eq (prospect_of outlook p).upstream (prospect_of outlook q).upstream (sym a))
+
+    pub not-so : {r k : Relation} → r ≡ between_in relations q p → false ≡ sameb the_type r k → Meets k → ⊥
+    not-so {r} {k} e s m = same_false the_type r k (sym s) (e ∙ m.0)
+
+    pub not-alike : {k : Relation} → false ≡ alike_in → Meets k → ⊥
+    not-alike a m = true≢false (sym (ap (λ e. same_end e (prospect_of outlook q).upstream) m.1 ∙ same_end-refl (prospect_of outlook q).upstream) ∙ sym a)
 
     -- the upstream breaker
-    pub upstream-kept : (between_in relations q p ≡ Behind → Alike → ⊥) → (prospect_of outlook p).upstream ≡ upstream_at N S d
+    pub upstream-kept : (Meets Behind → ⊥) → (prospect_of outlook p).upstream ≡ upstream_at N S d
     upstream-kept n =
         u.upstream
-        ∙ sym (upstream-old N x.accepted w.rest last w.low w.before p y.low y.high (λ r c. n (related-is ∙ r) (alike-back c)))
+        ∙ sym (upstream-old N x.accepted w.rest last w.low w.before p y.low y.high (λ r c. n (related-is ∙ r, alike-back c)))
         ∙ ap (λ T. upstream_at N T d) (sym w.is)
 
-    pub upstream-taken : between_in relations q p ≡ Behind → Alike → end_at N q ≡ upstream_at N S d
-    upstream-taken r c =
+    pub upstream-taken : Meets Behind → end_at N q ≡ upstream_at N S d
+    upstream-taken m =
         ap (end_at N) lastly.0
-        ∙ sym (upstream-new N x.accepted w.rest last w.low w.before p y.low y.high (sym related-is ∙ r) (alike c))
+        ∙ sym (upstream-new N x.accepted w.rest last w.low w.before p y.low y.high (sym related-is ∙ m.0) (alike m.1))
         ∙ ap (λ T. upstream_at N T d) (sym w.is)
 
     -- the weight
-    pub weight-kept : (between_in relations q p ≡ Above → Alike → ⊥) → (prospect_of outlook p).weight ≡ weight_at N S d
+    pub weight-kept : (Meets Above → ⊥) → (prospect_of outlook p).weight ≡ weight_at N S d
     weight-kept n =
         u.weight
-        ∙ sym (weight-same N x.accepted w.rest last w.low w.before p y.low y.high (λ r c. n (related-is ∙ r) (alike-back c)))
+        ∙ sym (weight-same N x.accepted w.rest last w.low w.before p y.low y.high (λ r c. n (related-is ∙ r, alike-back c)))
         ∙ ap (λ T. weight_at N T d) (sym w.is)
 
-    pub weight-taken : between_in relations q p ≡ Above → Alike → weight_at N S d + (prospect_of outlook q).weight ≡ (prospect_of outlook p).weight
-    weight-taken r c =
-        (λ i. weight_at N (w.is i) d + (ap (λ r. (prospect_of outlook r).weight) lastly.0 ∙ v.weight) i)
-        ∙ weight-less N x.accepted w.rest last w.low w.before p y.low y.high (sym related-is ∙ r) (alike c)
-        ∙ sym u.weight
+    pub weight-taken : {own less : Prospect} → own ≡ prospect_of outlook p → less ≡ prospect_of outlook q → Meets Above → weight_at N S d + less.weight ≡ own.weight
+    weight-taken f g m =
+        (λ i. weight_at N (w.is i) d + (ap (λ (v : Prospect). v.weight) g ∙ ap (λ r. (prospect_of outlook r).weight) lastly.0 ∙ v.weight) i)
+        ∙ weight-less N x.accepted w.rest last w.low w.before p y.low y.high (sym related-is ∙ m.0) (alike m.1)
+        ∙ sym (ap (λ (v : Prospect). v.weight) f ∙ u.weight)
 
     -- the breakers in series
     pub few : in_series_at N S d ≤ 8
@@ -153,7 +168,7 @@ module _ {N : Network} {relations : Relations} {outlook : Outlook} {S : List ℕ
     -- a place apart from the last member has the prospect that it had
     pub values-kept : between_in relations q p ≡ Apart → Values N S p outlook
     values-kept a = record {
-      upstream = upstream-kept (λ r. absurd (omega (arith, ap nth a, ap nth r)));
-      weight = weight-kept (λ r. absurd (omega (arith, ap nth a, ap nth r)));
+      upstream = upstream-kept (λ m. absurd (omega (arith, ap nth a, ap nth m.0)));
+      weight = weight-kept (λ m. absurd (omega (arith, ap nth a, ap nth m.0)));
       in-series = in-series-kept a;
     }

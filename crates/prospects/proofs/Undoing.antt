@@ -1,12 +1,15 @@
 -- Changes of an outlook, place after place, and their undoing.
 use Prim.Native.Nat.{ℕ, ◌+◌, ◌*◌, ◌≤◌, ◌<◌}
-use mathlib.Core.Path.{◌≡◌, refl, sym, ◌∙◌}
+use mathlib.Core.Path.{◌≡◌, refl, sym, ap, ◌∙◌}
 use mathlib.Core.Logic.{◌≢◌, ⊎_elim}
+use mathlib.Core.HLevel.{is_prop→PathP}
 use mathlib.Core.List.{List}
+use native.Mathlib.Decide.{ℕ_discrete}
 use native.Mathlib.Nat.{eq-or-lt_of_le}
 use native.Mathlib.Omega.{arith}
 use lib.ListN.{length, get_or, set}
-use lib.Seq.{get_or-set_same, get_or-set_other}
+use lib.Seq.{get_or-set_same, get_or-set_other, ext_get_or}
+use Rattle.std.proofs.Math.Nat.{ℕ_set}
 use Rattle.relations.specs.Lists.{Row}
 use Rattle.starts.specs.declared.Prospect.{Prospect}
 use Rattle.starts.specs.declared.Outlook.{Outlook}
@@ -58,3 +61,17 @@ module _ {ps : List ℕ} {q row : ℕ} (r : Row ps q 65) where
     same = c.same;
     kept = λ i a h. s (row * 65 + get_or ps i 0) (omega (arith, r.later i (omega arith))) ∙ c.kept i a h;
   }
+
+-- one place is put back
+pub changed-less : {ps : List ℕ} {row i n : ℕ} {old outlook outlook' : Outlook} {rows : List Prospect} → i < n → Put (get_or ps i 0) (kept_at rows row (get_or ps i 0)) outlook outlook' → Changed ps row i n old outlook rows → Changed ps row (i + 1) n old outlook' rows
+changed-less {ps} {row} {i} {n} {old} {outlook} {outlook'} h p c = record { same = λ q l m. at q l m (ℕ_discrete q (get_or ps i 0)); kept = λ j a b. c.kept j (omega arith) b }
+  where
+    at : (q : ℕ) → q ≤ 64 → ((j : ℕ) → i + 1 ≤ j → j < n → get_or ps j 0 ≡ q → ⊥) → Dec (q ≡ get_or ps i 0) → Same old outlook' q
+    at q l m (yes e) = rw e (p.own ∙ c.kept i (omega arith) h)
+    at q l m (no d) = p.others q l d ∙ c.same q l (λ j a b e. ⊎_elim (λ k. d (sym e ∙ ap (λ i. get_or ps i 0) (sym k))) (λ k. m j (omega arith) b e) (eq-or-lt_of_le {n = i} {m = j} a))
+
+-- outlooks with the same prospects are equal
+pub outlook_same : (old new : Outlook) → ((p : ℕ) → p ≤ 64 → Same old new p) → new ≡ old
+outlook_same old new f =
+    let e : new.prospects ≡ old.prospects = ext_get_or no_prospect new.prospects old.prospects (new.long ∙ sym old.long) (λ p h. f p (omega (arith, new.long))) in
+    λ i. record { prospects = e i; long = is_prop→PathP (λ j. length (e j) ≡ 65) (λ j. ℕ_set (length (e j)) 65) new.long old.long i }

@@ -14,7 +14,7 @@ use Rattle.starts.specs.Outlook.{Values, HoldsOutlook, no_prospect, prospect_of}
 use Rattle.prospects.specs.declared.Tables.{Tables}
 use Rattle.prospects.specs.declared.Choice.{Choice}
 use Rattle.prospects.specs.declared.Prospects.{Prospects}
-use Rattle.prospects.specs.Changes.{kept_at, AllSame, Changed, SameBefore}
+use Rattle.prospects.specs.Changes.{kept_at, Changed, SameBefore}
 
 -- the relations of the places of an accepted file, and the customers behind each of its lines
 pub record HoldsTables (t : Tables) : Type 0 where
@@ -74,7 +74,7 @@ pub record Entered (N : Network) (relations : Relations) (S : List ℕ) (row las
   pub changed : Changed (later_in relations last) row 0 (length (later_in relations last)) old.outlook new.outlook new.kept
   pub below : SameBefore row old.kept new.kept
 
--- what was changed in the outlook, for the places of a list, is as it was
+-- the outlook is as it was before the prospects of the places of a list were changed
 pub record Undone (ps : List ℕ) (row : ℕ) (from new : Prospects) : Type 0 where
-  pub back : (old : Outlook) → Changed ps row 0 (length ps) old from.outlook from.kept → AllSame old new.outlook
+  pub back : (old : Outlook) → Changed ps row 0 (length ps) old from.outlook from.kept → new.outlook ≡ old
   pub kept : new.kept ≡ from.kept

@@ -124,8 +124,7 @@ pub struct Prospects {
 }
 
 impl Prospects {
-    ghost use Rattle.relations.specs.Lists.{Row};
-    ghost use Rattle.relations.specs.Related.{later_in, row_count};
+    ghost use Rattle.prospects.specs.Changes.{AllFit};
     ghost use Rattle.prospects.specs.Chosen.{IsUnfilled, Entering, Entered, Undone};
 
     // Room for the prospects, and for 16 sets on the way.
@@ -162,13 +161,13 @@ impl Prospects {
         }
     }
 
-    // Undoes what entering a set of `size` members changed.
-    pub fn leave(&mut self, relations: &Relations, size: usize, last: usize)
-        requires { (size ≤ 15) × (1 ≤ last) × (last ≤ row_count relations.now) × Row (later_in relations.now last) last 65 }
-        ensures { Undone (later_in relations.now last) size self.old self.new }
+    // Undoes what entering a set of `size` members changed, of which these places are those that its last member is related to.
+    pub fn leave(&mut self, places: &[usize], size: usize)
+        requires { (size ≤ 15) × AllFit places.now }
+        ensures { Undone places.now size self.old self.new }
     {
         let row = size * 65;
-        for place in relations.later(last) {
+        for place in places {
             let before = self.kept[row + *place];
             self.outlook.set(*place, before);
         }

@@ -8,7 +8,7 @@ use Rattle.std.proofs.Math.Decide.{ℕ_discrete, dec_lt}
 use Rattle.model.specs.Network.{Network}
 use Rattle.model.specs.Paths.{is_hv}
 use Rattle.model.specs.Rules.{some_joined, is_supplied}
-use Rattle.graphs.specs.Labels.{relabel, relabel-same, relabel-other}
+use Rattle.graphs.specs.Labels.{relabel}
 use Rattle.theory.specs.Reading.{Read}
 use Rattle.network.specs.There.{StationThere}
 use Rattle.theory.specs.Labels.{label_of, Labelled, hv-in, labelled-joined, labelled-supplied}
@@ -33,24 +33,6 @@ number_step labels i l h k b = go (ℕ_discrete k i)
 pub record Renamed (x y i : ℕ) (before labels : List ℕ) : Type 0 where
   pub done : (k : ℕ) → k < i → get_or labels k 0 ≡ relabel x y (get_or before k 0)
   pub left : (k : ℕ) → i ≤ k → get_or labels k 0 ≡ get_or before k 0
-
-module _ {x y i : ℕ} {before labels : List ℕ} (r : Renamed x y i before labels) where
-  here : get_or labels i 0 ≡ get_or before i 0
-  here = r.left i (omega arith)
-
-  pub renamed-stay : get_or labels i 0 ≢ x → Renamed x y (i + 1) before labels
-  renamed-stay d = record { done = λ k b. go k b (ℕ_discrete k i); left = λ k b. r.left k (omega arith) }
-    where
-      go : (k : ℕ) → k < i + 1 → Dec (k ≡ i) → get_or labels k 0 ≡ relabel x y (get_or before k 0)
-      go k b (yes e) = subst (λ n. get_or labels n 0 ≡ relabel x y (get_or before n 0)) (sym e) (here ∙ sym (relabel-other x y (get_or before i 0) (λ q. d (here ∙ q))))
-      go k b (no e) = r.done k (omega arith)
-
-  pub renamed-set : i < length labels → get_or labels i 0 ≡ x → Renamed x y (i + 1) before (set labels i y)
-  renamed-set l d = record { done = λ k b. go k b (ℕ_discrete k i); left = λ k b. get_or-set_other labels i k y 0 (omega arith) ∙ r.left k (omega arith) }
-    where
-      go : (k : ℕ) → k < i + 1 → Dec (k ≡ i) → get_or (set labels i y) k 0 ≡ relabel x y (get_or before k 0)
-      go k b (yes e) = subst (λ n. get_or (set labels i y) n 0 ≡ relabel x y (get_or before n 0)) (sym e) (get_or-set_same labels i y 0 l ∙ sym (relabel-same x y (get_or before i 0) (sym here ∙ d)))
-      go k b (no e) = get_or-set_other labels i k y 0 e ∙ r.done k (omega arith)
 
 -- of the stations before s, the labels of the HV stations are marked by 1, and no others
 pub record Marked (N : Network) (labels : List ℕ) (s : ℕ) (marks : List Bool) : Type 0 where

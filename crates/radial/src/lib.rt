@@ -7,7 +7,7 @@ ghost use Rattle.model.specs.Paths.{end1, end2, is_open, station_numbers, line_n
 ghost use Rattle.model.specs.Rules.{both_open, some_path_returns, some_joined, is_supplied};
 ghost use Rattle.graphs.specs.Labels.{relabel};
 ghost use Rattle.theory.specs.Reading.{Read};
-ghost use Rattle.theory.specs.Labels.{label_of};
+ghost use Rattle.theory.specs.Labels.{label_of, Labelled};
 ghost use Rattle.network.specs.Found.{found};
 ghost use Rattle.network.specs.There.{StationThere, LineThere};
 ghost use Rattle.radial.specs.Stations.{Marked, HoldsParts};
@@ -66,6 +66,7 @@ impl<'a> Parts<'a> {
         requires open { first_or 0 (both_open net.now) (line_numbers net.now) ≡ 0 }
         ensures returns { is_none result ≡ some_path_returns net.now }
         ensures network { IfSome result (λ p. p.net.now ≡ net.now) }
+        ensures labelled { IfSome result (λ p. Labelled p.net.now (length p.net.now.lines) p.labels) }
     {
         let mut labels = numbered();
         for line in 1..net.line_count() + 1 {
@@ -89,8 +90,8 @@ impl<'a> Parts<'a> {
 }
 
 impl Parts<'_> {
-    // The label of a station.
-    fn label(&self, station: usize) -> usize
+    // The label of a station: two stations have one where a path joins them.
+    pub fn label(&self, station: usize) -> usize
         requires { StationThere self.now.net.now station }
         ensures { (result ≡ label_of self.now.labels station) × (result ≤ 512) }
     {

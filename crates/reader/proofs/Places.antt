@@ -6,12 +6,14 @@ use Prim.Native.Nat.{ℕ, ◌+◌, ◌-◌}
 use native.Mathlib.Omega.{arith}
 use lib.Dec.{eqb}
 use lib.ListN.{length, length-append, get_or}
+use borrow.Author.Tests.{eqb-true, eqb-false}
 use Rattle.model.specs.declared.Head.{Head}
 use Rattle.model.specs.Answer.{Answer, given, refused, ◌>>=◌}
 use Rattle.model.specs.Format.{newline, Record, closed, unclosed, on_first_record, records_of}
 use Rattle.model.specs.Network.{Network, Place, kind_p, no_place, read_record, place_of, well_placed, read_places}
 use Rattle.network.specs.Changed.{with_places, with_one_more}
 use Rattle.records.specs.Records.{next_record}
+use Rattle.records.proofs.Next.{no-records}
 use Rattle.reader.specs.Reading.{last_place, more_places}
 use Rattle.reader.proofs.Placed.{last_of_more}
 use Rattle.reader.proofs.Turns.{in-turn}
@@ -23,7 +25,7 @@ some_first b [] e = omega arith
 some_first b (closed r ∷ rs) e = omega arith
 some_first b (unclosed r ∷ rs) e = omega arith
 
-pub some-record : (bs : List ℕ) → (length bs ≡ 0 → ⊥) → length (records_of bs) ≡ 0 → ⊥
+some-record : (bs : List ℕ) → (length bs ≡ 0 → ⊥) → length (records_of bs) ≡ 0 → ⊥
 unfolding records_of
 some-record [] n = absurd (n refl)
 some-record (b ∷ bs) n = go (eqb b newline)
@@ -44,10 +46,10 @@ unfolding reading more_places
 places-read N i rs = refl
 
 module _ (h : Head) (N : Network) (i : ℕ) where
-  pub ended : (rs : List Record) → rs ≡ [] → reading h N i rs ≡ given N
+  pub ended : (bs : List ℕ) → true ≡ eqb (length bs) 0 → reading h N i (records_of bs) ≡ given N
   unfolding reading read_places
-  ended rs e =
-      ap (reading h N i) e
+  ended bs e =
+      ap (reading h N i) (no-records bs (eqb-true _ _ (sym e)))
       ∙ ap (λ (ps : List Place). given (record { head = N.head; stations = N.stations; lines = N.lines; places = ps })) (append-nil N.places)
 
   with : List Place → Network
@@ -68,44 +70,49 @@ module _ (h : Head) (N : Network) (i : ℕ) where
   first_of [] e = absurd (e refl)
   first_of (r ∷ rs) e = sym (in-turn (read_record h.stations h.lines i kind_p r) (λ vs. given (vs, rs)) after_place)
 
-  module _ (rs : List Record) (l : length rs ≡ 0 → ⊥) where
-    with-next : (a : Answer (List ℕ × List Record)) → a ≡ next_record h.stations h.lines i kind_p rs → reading h N i rs ≡ ((a >>= after_place) >>= λ ps. given (with ps))
+  -- there are bytes left
+  module _ (bs : List ℕ) (more : false ≡ eqb (length bs) 0) where
+    with-next : (a : Answer (List ℕ × List Record)) → a ≡ next_record h.stations h.lines i kind_p (records_of bs)
+        → reading h N i (records_of bs) ≡ ((a >>= after_place) >>= λ ps. given (with ps))
     unfolding reading with
     with-next a e =
-        ap (λ (x : Answer (List Place)). x >>= λ ps. given (with ps)) (first_of rs l)
+        ap (λ (x : Answer (List Place)). x >>= λ ps. given (with ps)) (first_of (records_of bs) (some-record bs (eqb-false _ _ (sym more))))
         ∙ ap (λ (x : Answer (List ℕ × List Record)). (x >>= after_place) >>= λ ps. given (with ps)) (sym e)
 
-    pub stopped : (number place : ℕ) → refused number place ≡ next_record h.stations h.lines i kind_p rs → reading h N i rs ≡ refused number place
+    pub stopped : (number place : ℕ) → refused number place ≡ next_record h.stations h.lines i kind_p (records_of bs) → reading h N i (records_of bs) ≡ refused number place
     stopped number place e = with-next (refused number place) e
 
-    module _ (v : List ℕ) (rest : List Record) (e : given (v, rest) ≡ next_record h.stations h.lines i kind_p rs) where
-      after_is : (t : Bool) → t ≡ well_placed N.lines (length N.places) (last_place N.places) (place_of v)
-          → reading h N i rs ≡ ((elim t as (λ x. Answer (List Place)) [
-            | true ↦ read_places h N.lines (i + 1) (length N.places + 1) (place_of v) rest >>= λ ps. given (place_of v ∷ ps)
+    -- and a place is read
+    module _ (v : List ℕ) (rest : List Record) (e : given (v, rest) ≡ next_record h.stations h.lines i kind_p (records_of bs)) (p : Place) (q : p ≡ place_of v) where
+      after_is : (t : Bool) → t ≡ well_placed N.lines (length N.places) (last_place N.places) p
+          → reading h N i (records_of bs) ≡ ((elim t as (λ x. Answer (List Place)) [
+            | true ↦ read_places h N.lines (i + 1) (length N.places + 1) p rest >>= λ ps. given (p ∷ ps)
             | false ↦ refused 3 i
           ]) >>= λ ps. given (with ps))
       unfolding after_place
       after_is t w =
           with-next (given (v, rest)) e
-          ∙ ap (λ (x : Bool). (elim x as (λ y. Answer (List Place)) [
-            | true ↦ read_places h N.lines (i + 1) (length N.places + 1) (place_of v) rest >>= λ ps. given (place_of v ∷ ps)
+          ∙ ap₂ (λ (x : Bool) (p : Place). (elim x as (λ y. Answer (List Place)) [
+            | true ↦ read_places h N.lines (i + 1) (length N.places + 1) p rest >>= λ ps. given (p ∷ ps)
             | false ↦ refused 3 i
-          ]) >>= λ ps. given (with ps)) (sym w)
+          ]) >>= λ ps. given (with ps)) (sym (w ∙ ap (well_placed N.lines (length N.places) (last_place N.places)) q)) (sym q)
 
-      pub misplaced : false ≡ well_placed N.lines (length N.places) (last_place N.places) (place_of v) → reading h N i rs ≡ refused 3 i
+      pub misplaced : false ≡ well_placed N.lines (length N.places) (last_place N.places) p → reading h N i (records_of bs) ≡ refused 3 i
       misplaced w = after_is false w
 
-      pub next : true ≡ well_placed N.lines (length N.places) (last_place N.places) (place_of v) → reading h N i rs ≡ reading h (with_one_more N (place_of v)) (i + 1) rest
+      pub next : true ≡ well_placed N.lines (length N.places) (last_place N.places) p → (M : Network) → M ≡ with_one_more N p → (j : ℕ) → j ≡ i + 1
+          → reading h N i (records_of bs) ≡ reading h M j rest
       unfolding reading with with_one_more with_places last_place
-      next w =
+      next w M m j k =
           after_is true w
-          ∙ one_more (read_places h N.lines (i + 1) (length N.places + 1) (place_of v) rest)
-          ∙ ap₂ (λ (n : ℕ) (p : Place). read_places h N.lines (i + 1) n p rest >>= λ ps. given (record { head = N.head; stations = N.stations; lines = N.lines; places = (N.places ++ place_of v ∷ []) ++ ps }))
-          {x = length N.places + 1} {y = length (N.places ++ place_of v ∷ [])} {u = place_of v} {v = get_or (N.places ++ place_of v ∷ []) (length (N.places ++ place_of v ∷ []) - 1) no_place}
-          (omega (arith, length-append N.places (place_of v ∷ [])))
-          (sym (last_of_more N.places (place_of v) (length (N.places ++ place_of v ∷ []) - 1) (omega (arith, length-append N.places (place_of v ∷ [])))))
+          ∙ one_more (read_places h N.lines (i + 1) (length N.places + 1) p rest)
+          ∙ ap₂ (λ (n : ℕ) (p' : Place). read_places h N.lines (i + 1) n p' rest >>= λ ps. given (record { head = N.head; stations = N.stations; lines = N.lines; places = (N.places ++ p ∷ []) ++ ps }))
+          {x = length N.places + 1} {y = length (N.places ++ p ∷ [])} {u = p} {v = get_or (N.places ++ p ∷ []) (length (N.places ++ p ∷ []) - 1) no_place}
+          (omega (arith, length-append N.places (p ∷ [])))
+          (sym (last_of_more N.places p (length (N.places ++ p ∷ []) - 1) (omega (arith, length-append N.places (p ∷ [])))))
+          ∙ sym (ap₂ (λ (M : Network) (j : ℕ). reading h M j rest) m k)
         where
-          one_more : (a : Answer (List Place)) → ((a >>= λ ps. given (place_of v ∷ ps)) >>= λ ps. given (with ps))
-              ≡ (a >>= λ ps. given (record { head = N.head; stations = N.stations; lines = N.lines; places = (N.places ++ place_of v ∷ []) ++ ps }))
-          one_more (given ps) = ap (λ (l : List Place). given (record { head = N.head; stations = N.stations; lines = N.lines; places = l })) (sym (append_assoc N.places (place_of v ∷ []) ps))
+          one_more : (a : Answer (List Place)) → ((a >>= λ ps. given (p ∷ ps)) >>= λ ps. given (with ps))
+              ≡ (a >>= λ ps. given (record { head = N.head; stations = N.stations; lines = N.lines; places = (N.places ++ p ∷ []) ++ ps }))
+          one_more (given ps) = ap (λ (l : List Place). given (record { head = N.head; stations = N.stations; lines = N.lines; places = l })) (sym (append_assoc N.places (p ∷ []) ps))
           one_more (refused number place) = refl

@@ -1,7 +1,7 @@
 // The reader of a network file: its bytes to a network, with the refusals 1 to 3.
 #![tactic(auto)]
 
-ghost use Rattle.std.specs.Prelude.{◌≡◌, true, false, ◌+◌, ◌≤◌, ◌<◌, ◌^◌, [], length, map, IfOk, OnOk};
+ghost use Rattle.std.specs.Prelude.{◌≡◌, true, false, ◌+◌, ◌≤◌, ◌<◌, [], length, map, IfOk, OnOk};
 ghost use Rattle.model.specs.Answer.{says};
 ghost use Rattle.model.specs.Format.{records_of};
 ghost use Rattle.model.specs.Network.{value, head_of, station_of, line_of, place_of, comes_after, well_placed, network_of};
@@ -130,10 +130,10 @@ fn well_placed(net: &Network, place: &Place) -> bool
 
 // Reads the head, which is the first record.
 fn read_head(records: &mut Records) -> Result<Head, Refusal>
-    requires { (records.old.number ≡ 1) × (records.old.number + length records.old.rest.now < 2 ^ 64) }
+    requires { records.old.number ≡ 1 }
     ensures answer { head_says result records.new.rest.now ≡ first_head (records_of records.old.rest.now) }
     ensures few { IfOk result (λ head. (head.stations ≤ 512) × (head.lines ≤ 768)) }
-    ensures goes_on { OnOk result ((records.new.number ≡ 2) × (length records.new.rest.now < length records.old.rest.now)) }
+    ensures goes_on { OnOk result (records.new.number ≡ 2) }
 {
     let row = records.next(Kind::Head, 0, 0)?;
     Ok(head_of(&row))
@@ -141,13 +141,11 @@ fn read_head(records: &mut Records) -> Result<Head, Refusal>
 
 // Reads the stations, as many as the head says.
 fn read_stations(records: &mut Records, net: &mut Network) -> Result<(), Refusal>
-    requires { (net.old.stations ≡ []) × (net.old.head.stations ≤ 512)
-        × (records.old.number + length records.old.rest.now < 2 ^ 64) }
+    requires { (net.old.stations ≡ []) × (net.old.head.stations ≤ 512) }
     ensures answer { left_says result net.new records.new.rest.now
         ≡ more_stations net.old records.old.number net.old.head.stations (records_of records.old.rest.now) }
     ensures others { (net.new.head ≡ net.old.head) × (net.new.lines ≡ net.old.lines) × (net.new.places ≡ net.old.places) }
-    ensures goes_on { OnOk result ((records.new.number ≡ records.old.number + net.old.head.stations)
-        × (records.new.number + length records.new.rest.now ≤ records.old.number + length records.old.rest.now)) }
+    ensures goes_on { OnOk result (records.new.number ≡ records.old.number + net.old.head.stations) }
 {
     let head = *net.head();
     for _ in 0..head.stations {
@@ -160,14 +158,12 @@ fn read_stations(records: &mut Records, net: &mut Network) -> Result<(), Refusal
 // Reads the lines, as many as the head says. They have a loop of their own: a function of both would take a closure, and would have to say
 // what it may be called on and what it adds.
 fn read_lines(records: &mut Records, net: &mut Network) -> Result<(), Refusal>
-    requires { (net.old.lines ≡ []) × (net.old.head.lines ≤ 768)
-        × (records.old.number + length records.old.rest.now < 2 ^ 64) }
+    requires { (net.old.lines ≡ []) × (net.old.head.lines ≤ 768) }
     ensures answer { left_says result net.new records.new.rest.now
         ≡ more_lines net.old records.old.number net.old.head.lines (records_of records.old.rest.now) }
     ensures others { (net.new.head ≡ net.old.head) × (net.new.stations ≡ net.old.stations) × (net.new.places ≡ net.old.places) }
     ensures goes_on { OnOk result ((length net.new.lines ≡ net.old.head.lines)
-        × (records.new.number ≡ records.old.number + net.old.head.lines)
-        × (records.new.number + length records.new.rest.now ≤ records.old.number + length records.old.rest.now)) }
+        × (records.new.number ≡ records.old.number + net.old.head.lines)) }
 {
     let head = *net.head();
     for _ in 0..head.lines {
@@ -179,8 +175,7 @@ fn read_lines(records: &mut Records, net: &mut Network) -> Result<(), Refusal>
 
 // Reads the places, which are all the records that are left.
 fn read_places(records: &mut Records, net: &mut Network) -> Result<(), Refusal>
-    requires { (length net.old.lines ≡ net.old.head.lines)
-        × (records.old.number + length records.old.rest.now < 2 ^ 64) }
+    requires { length net.old.lines ≡ net.old.head.lines }
     ensures { says_of result net.new ≡ more_places net.old records.old.number (records_of records.old.rest.now) }
 {
     let head = *net.head();

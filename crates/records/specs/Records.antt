@@ -19,10 +19,14 @@ first_closed [] = None
 first_closed (closed r ∷ rs) = Some (r, rs)
 first_closed (unclosed r ∷ rs) = None
 
--- bytes that are given, and the records of what is left
-abbrev pub closed_says : Option (Bor (List ℕ)) → List ℕ → Option (List ℕ × List Record)
-closed_says None rest = None
-closed_says (Some bytes) rest = Some (bytes.now, records_of rest)
+-- bytes that are given, and the records of those behind them
+abbrev pub closed_says : Option (Bor (List ℕ) × Bor (List ℕ)) → Option (List ℕ × List Record)
+closed_says None = None
+closed_says (Some p) = Some (p.0.now, records_of p.1.now)
+
+-- numbers that are given, and the records of the bytes behind them
+abbrev pub record_says : Result (ArrayVec ℕ × Bor (List ℕ)) Refusal → Answer (List ℕ × List Record)
+record_says r = says r >>= λ p. given (p.0.items, records_of p.1.now)
 
 -- numbers that are given, and the records of what is left
 abbrev pub read_says : Result (ArrayVec ℕ) Refusal → List ℕ → Answer (List ℕ × List Record)

@@ -16,7 +16,7 @@ use borrow.Author.Tests.{eq-eqb, ne_eqb, lt-ltb, le-ltb, eqb-true}
 use Rattle.relations.specs.declared.Relation.{Relation}
 use Rattle.relations.specs.declared.Relation.TheVariants.{Apart, Behind, Above}
 use Rattle.relations.specs.Lists.{relation_at}
-use Rattle.relations.specs.Climb.{Among, noted, Noted}
+use Rattle.relations.specs.Climb.{Among, noted, Noted, Kept}
 
 -- the number that there is, 0 where there is none
 abbrev pub number : Option ℕ → ℕ
@@ -96,6 +96,13 @@ module _ (n : ℕ) (small : n ≤ 64) (p : ℕ) (i : Among n p) where
           ∙ h q r b c
           ∙ (λ k. noted (apart (eqb r p) (eqb q a) (test q) (λ x. ne_eqb q a (λ y. u (y, eqb-true r p x))) k) (apart (eqb q p) (eqb r a) (test r) (λ x. ne_eqb r a (λ y. v (eqb-true q p x, y))) k) was)
 
+  -- which is not of row 0
+  kept_more : (a : ℕ) → Among n a → (old new : List Relation) → Kept old new → Kept old (set (set new (a * 65 + p) Behind) (p * 65 + a) Above)
+  kept_more a j old new h r b =
+      get_or-set_other (set new (a * 65 + p) Behind) (p * 65 + a) (0 * 65 + r) Above Apart (λ z. omega (arith, z))
+      ∙ get_or-set_other new (a * 65 + p) (0 * 65 + r) Behind Apart (λ z. omega (arith, z))
+      ∙ h r b
+
 ltb_next : (x p : ℕ) → ltb x (p + 1) ≡ (eqb x p || ltb x p)
 ltb_next x p = go (ℕ_discrete x p) (dec_lt x p)
   where
@@ -128,6 +135,7 @@ pub record Climbed (n : ℕ) (above : ℕ → ℕ → Bool) (p a : ℕ) (old new
   pub high : a ≤ n
   pub on : 1 ≤ a → above a p ≡ true
   pub noted : Noted n (passed above p a) p old new
+  pub kept : Kept old new
   pub long : length new ≡ 4225
 
 -- the relations of the places below k to those above them are noted
@@ -173,6 +181,7 @@ module _ (n : ℕ) (above : ℕ → ℕ → Bool) (next height : ℕ → ℕ) (c
       high = c.high p i;
       on = next-above p i;
       noted = noted-same n small p i (λ q. false) (passed above p (next p)) old old (λ q j. none (above q p) ∙ ap (λ b. above q p && not b) (c.chain q p j i)) (noted-none n small p i old);
+      kept = λ r h. refl;
       long = l;
     }
       where
@@ -186,6 +195,7 @@ module _ (n : ℕ) (above : ℕ → ℕ → Bool) (next height : ℕ → ℕ) (c
       on = λ g. c.over (next a) a p (g, c.high a j) j i (next-above a j g) (m.on h);
       noted = noted-same n small p i (λ q. eqb q a || passed above p a q) (passed above p (next a)) old (set (set new (a * 65 + p) Behind) (p * 65 + a) Above) (λ q g. agree q g (ℕ_discrete q a))
           (noted_more n small p i (passed above p a) a j other old new m.long m.noted);
+      kept = kept_more n small p i a j old new m.kept;
       long = simp length-set m.long;
     }
       where

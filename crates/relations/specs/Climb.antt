@@ -31,3 +31,7 @@ noted a b old = this a Behind (this b Above old)
 -- from one state of the relations to another: those of p to the places that pass a test are noted
 abbrev pub Noted : ℕ → (ℕ → Bool) → ℕ → List Relation → List Relation → Type 0
 Noted n test p old new = (q r : ℕ) → Among n q → Among n r → relation_at new q r ≡ noted (eqb r p && test q) (eqb q p && test r) (relation_at old q r)
+
+-- row 0 stays
+abbrev pub Kept : List Relation → List Relation → Type 0
+Kept old new = (p : ℕ) → p ≤ 64 → relation_at new 0 p ≡ relation_at old 0 p

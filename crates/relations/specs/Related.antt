@@ -43,8 +43,14 @@ later_in r q = get_or (map (λ row. row.items) r.later.items) (q - 1) []
 abbrev pub row_count : Relations → ℕ
 row_count r = length r.later.items
 
--- the table has the relations of all places, and for each place those after it that are not apart from it
+-- for each of `count` places, and for no more, the table lists the later ones of them that it is related to
+pub record HoldsLater (r : Relations) (count : ℕ) : Type 0 where
+  pub rows : row_count r ≡ count
+  pub each : (q : ℕ) → 1 ≤ q → q ≤ count → Listed r.between q (count + 1) (later_in r q)
+
+-- The table has the relations of all places, and for each place those after it that are not apart from it. Row 0, of no place, says
+-- apart everywhere.
 pub record HoldsRelations (N : Network) (r : Relations) : Type 0 where
+  pub none : (p : ℕ) → p ≤ 64 → between_in r 0 p ≡ Apart
   pub each : (q p : ℕ) → 1 ≤ q → q ≤ length N.places → 1 ≤ p → p ≤ length N.places → between_in r q p ≡ relation N q p
-  pub rows : row_count r ≡ length N.places
-  pub later : (q : ℕ) → 1 ≤ q → q ≤ length N.places → Listed r.between q (length N.places + 1) (later_in r q)
+  pub later : HoldsLater r (length N.places)

@@ -8,9 +8,9 @@ ghost use Rattle.network.specs.Found.{found};
 ghost use Rattle.tree.specs.Linked.{LineHeld};
 ghost use Rattle.tree.specs.Held.{near_in};
 ghost use Rattle.relations.specs.declared.Relation.TheVariants.{Apart};
-ghost use Rattle.relations.specs.Related.{HoldsRoutes, HoldsRelations, between_in, later_in, row_count};
+ghost use Rattle.relations.specs.Related.{HoldsRoutes, HoldsLater, HoldsRelations, between_in, later_in, row_count};
 ghost use Rattle.relations.specs.Lists.{is_related, Listed};
-ghost use Rattle.relations.specs.Climb.{is_above, place_above, Noted};
+ghost use Rattle.relations.specs.Climb.{is_above, place_above, Noted, Kept};
 
 use arrayvec::ArrayVec;
 use marks::Marks;
@@ -112,8 +112,9 @@ impl Relations {
     // The relations between a place and those above it.
     fn climb(&mut self, routes: &Routes, place: usize)
         requires { PlaceThere routes.now.net.now place }
-        ensures { Noted (length routes.now.net.now.places) (λ q. is_above routes.now.net.now q place)
+        ensures noted { Noted (length routes.now.net.now.places) (λ q. is_above routes.now.net.now q place)
             place self.old.between self.new.between }
+        ensures row_zero { Kept self.old.between self.new.between }
     {
         // not by `successors`, whose end the types don't know: that a path ends is the proof of this loop
         let mut next = routes.above(place);
@@ -138,6 +139,19 @@ impl Relations {
         row
     }
 
+    // Lists for each of `count` places the later ones of them that it is related to, by the table as it stands.
+    pub fn list_later(&mut self, count: usize)
+        requires { count ≤ 64 }
+        ensures table { self.new.between ≡ self.old.between }
+        ensures lists { HoldsLater self.new count }
+    {
+        self.later.clear();
+        for q in 1..count + 1 {
+            let row = self.row(q, count);
+            self.later.push(row);
+        }
+    }
+
     // How the places of a network stand to each other.
     pub fn relate(&mut self, routes: &Routes)
         ensures { HoldsRelations routes.now.net.now self.new }
@@ -147,10 +161,6 @@ impl Relations {
         for place in 1..count + 1 {
             self.climb(routes, place);
         }
-        self.later.clear();
-        for place in 1..count + 1 {
-            let row = self.row(place, count);
-            self.later.push(row);
-        }
+        self.list_later(count);
     }
 }

@@ -19,15 +19,13 @@ use Rattle.theory.specs.Series.{series-rule, allowed-means}
 use Rattle.relations.specs.declared.Relations.{Relations}
 use Rattle.relations.specs.Lists.{Row}
 use Rattle.relations.specs.Related.{later_in, row_count}
-use Rattle.starts.specs.declared.Prospect.{Prospect}
-use Rattle.starts.specs.declared.Outlook.{Outlook}
 use Rattle.starts.specs.Outlook.{HoldsOutlook, no_prospect}
 use Rattle.prospects.specs.declared.Prospects.{Prospects}
-use Rattle.prospects.specs.Changes.{AllSame, SameBefore, Changed}
+use Rattle.prospects.specs.Changes.{SameBefore, Changed}
 use Rattle.prospects.specs.Chosen.{Before, Chosen, Without, Pending, Entering, Entered}
 use Rattle.prospects.proofs.OneMore.{before-later}
 use Rattle.prospects.proofs.Undoing.{changed-kept}
-use Rattle.prospects.proofs.Entering.{values_same, row-wide}
+use Rattle.prospects.proofs.Entering.{row-wide}
 use Rattle.search.specs.Walking.{found_in, visited, extended, tried, number, rest, Counted, Standing, Trying, Next, Barren, Promising, Seeking, Sought, Extending, Left, Visits, OwnNow}
 use Rattle.search.specs.Walking as walking
 use Rattle.search.proofs.Bounding.{barren, promising}
@@ -45,7 +43,7 @@ pub record Own (N : Network) (relations : Relations) (S : List ℕ) (last : Opti
   pub changed : Changed (later_in relations member) (length S) 0 (length (later_in relations member)) old.outlook now.outlook now.kept
 
 abbrev pub State : Network → Relations → List ℕ → Option ℕ → Prospects → Option ℕ → Prospects → Type 0
-State N relations S last old pending now = ((pending ≡ last) × AllSame old.outlook now.outlook) ⊎ ((pending ≡ None) × Own N relations S last old now)
+State N relations S last old pending now = ((pending ≡ last) × (now.outlook ≡ old.outlook)) ⊎ ((pending ≡ None) × Own N relations S last old now)
 
 -- The next place, from which on the walk finds what it finds with all of them. With none, it has found that.
 pub record Coming (N : Network) (S : List ℕ) (saved from left : ℕ) (f₀ : Found) (p : Progress) (next : ℕ) : Type 0 where
@@ -81,21 +79,6 @@ before_more q (p ∷ S) b l = ((b.0.0, omega (arith, b.0.1)), before_more q S b.
 -- the set without its last member
 rest-is : (S : List ℕ) (q : ℕ) → take (length (S ++ (q ∷ [])) - 1) (S ++ (q ∷ [])) ≡ S
 rest-is S q = ap (λ n. take n (S ++ (q ∷ []))) {x = length (S ++ (q ∷ [])) - 1} {y = length S} (omega (arith, length-append S (q ∷ []))) ∙ take-append_seam S (q ∷ [])
-
--- outlooks that are the same
-trans-same : (a b c : Outlook) → AllSame a b → AllSame b c → AllSame a c
-trans-same a b c f g p h = g p h ∙ f p h
-
-module _ {N : Network} (few : length N.places ≤ 64) where
-  holds-same : {S : List ℕ} {from : ℕ} (a b : Outlook) → AllSame a b → HoldsOutlook N S from a → HoldsOutlook N S from b
-  holds-same a b f h p l m = values_same {old = a} {new = b} (f p (omega (arith, few))) (h p l m)
-
-module _ {ps : List ℕ} {q row n : ℕ} (r : Row ps q 65) (h : n ≤ length ps) where
-  changed-before : (a b : Outlook) {outlook : Outlook} {rows : List Prospect} → AllSame a b → Changed ps row 0 n b outlook rows → Changed ps row 0 n a outlook rows
-  changed-before a b f c = record { same = λ p l m. c.same p l m ∙ f p l; kept = λ i l m. c.kept i l m ∙ f _ (omega (arith, r.later i (omega arith))) }
-
-  changed-after : (a b : Outlook) {old : Outlook} {rows : List Prospect} → AllSame a b → Changed ps row 0 n old a rows → Changed ps row 0 n old b rows
-  changed-after a b f c = record { same = λ p l m. f p l ∙ c.same p l m; kept = c.kept }
 
 module _ {w : Walk} {at : Current} {from left : ℕ} {old : Course} (x : Extending w old at from left) where
   abbrev N : Network
@@ -135,23 +118,20 @@ module _ {w : Walk} {at : Current} {from left : ℕ} {old : Course} (x : Extendi
     low = without.0.low
 
     row-of : Row (later_in R last) last 65
-    row-of = row-wide (omega (arith, places-few)) (x.tables.related.later last low (omega (arith, last-is, chosen.high))).row
+    row-of = row-wide (omega (arith, places-few)) (x.tables.related.later.each last low (omega (arith, last-is, chosen.high))).row
 
     row-there : last ≤ row_count R
-    row-there = omega (arith, last-is, chosen.high, x.tables.related.rows)
+    row-there = omega (arith, last-is, chosen.high, x.tables.related.later.rows)
 
   -- what leaving the set asks for
   pub leaving : {pending : Option ℕ} {course : Course} → Keeps w at old S pending course → walking.Leaving w.tables at.last pending course
-  leaving k last e f = ⊎_elim (λ s. absurd (none-member (s.0 ∙ e) f)) (λ s. (omega (arith, ap length k.members, s.1.few), low e, row-there e, row-of e)) k.state
+  leaving k last e f = ⊎_elim (λ s. absurd (none-member (s.0 ∙ e) f)) (λ s. (omega (arith, ap length k.members, s.1.few), low e, row-there e, λ i h. omega (arith, (row-of e).later i h))) k.state
 
   -- a state of the prospects
   module _ {pending : Option ℕ} {now : Prospects} (s : State N R S at.last old.prospects pending now) where
     is-pending : Pending N now.outlook S (number at.last) pending
     is-pending = ⊎_elim
-        (λ s. ⊎_elim
-        (λ t. inl (s.0 ∙ t.0, holds-same places-few old.prospects.outlook now.outlook s.1 t.1))
-        (λ t. inr (s.0 ∙ t.0, t.1, holds-same places-few old.prospects.outlook now.outlook s.1 t.2))
-        x.standing.is-pending)
+        (λ s. rw (s.1, s.0) x.standing.is-pending)
         (λ s. inl (s.0, subst (λ k. HoldsOutlook N S (k + 1) now.outlook) (sym (ap number s.1.is-last)) s.1.holds))
         s
 
@@ -167,17 +147,17 @@ module _ {w : Walk} {at : Current} {from left : ℕ} {old : Course} (x : Extendi
     }
 
     -- it stays while the rows after the set's own change
-    state-after : {now' : Prospects} → AllSame now.outlook now'.outlook → SameBefore (length S + 1) now.kept now'.kept → State N R S at.last old.prospects pending now'
+    state-after : {now' : Prospects} → now'.outlook ≡ now.outlook → SameBefore (length S + 1) now.kept now'.kept → State N R S at.last old.prospects pending now'
     state-after {now'} f u = ⊎_elim
-        (λ s. inl (s.0, trans-same old.prospects.outlook now.outlook now'.outlook s.1 f))
+        (λ s. inl (s.0, f ∙ s.1))
         (λ s. inr (
           s.0,
           record {
             member = s.1.member;
             is-last = s.1.is-last;
             few = s.1.few;
-            holds = holds-same places-few now.outlook now'.outlook f s.1.holds;
-            changed = changed-after (row-of s.1.is-last) (omega arith) now.outlook now'.outlook f (changed-kept (row-of s.1.is-last) (omega arith) u s.1.changed);
+            holds = rw f s.1.holds;
+            changed = rw f (changed-kept (row-of s.1.is-last) (omega arith) u s.1.changed);
           },
         ))
         s
@@ -192,7 +172,7 @@ module _ {w : Walk} {at : Current} {from left : ℕ} {old : Course} (x : Extendi
           record {
             chosen = subst (Chosen N R S) (last-is l) chosen;
             without = v.0;
-            holds = holds-same places-few old.prospects.outlook now.outlook s.1 v.1;
+            holds = rw s.1 v.1;
             few = room;
           })
           (λ s. absurd (none-member e s.0))
@@ -207,7 +187,7 @@ module _ {w : Walk} {at : Current} {from left : ℕ} {old : Course} (x : Extendi
           (λ s.
           let l = sym s.0 ∙ e in (
             subst (λ k. HoldsOutlook N S (k + 1) now'.outlook) (sym (last-is l)) n.own,
-            inr (refl, record { member = last; is-last = l; few = room; holds = n.own; changed = changed-before (row-of l) (omega arith) old.prospects.outlook now.outlook s.1 n.changed }),
+            inr (refl, record { member = last; is-last = l; few = room; holds = n.own; changed = rw (sym s.1) n.changed }),
             n.below,
           ))
           (λ s. absurd (none-member e s.0))

@@ -10,13 +10,12 @@ use Rattle.theory.specs.Best.{Accepted}
 use Rattle.bounds.specs.declared.Bounds.{Bounds}
 use Rattle.bounds.specs.Bounds.{places_from, most_saved, HoldsBounds}
 use Rattle.relations.specs.declared.Relations.{Relations}
-use Rattle.relations.specs.Lists.{Row}
 use Rattle.relations.specs.Related.{later_in, row_count}
 use Rattle.starts.specs.declared.Outlook.{Outlook}
 use Rattle.starts.specs.Outlook.{HoldsOutlook}
 use Rattle.prospects.specs.declared.Tables.{Tables}
 use Rattle.prospects.specs.declared.Choice.{Choice}
-use Rattle.prospects.specs.Changes.{AllSame, SameBefore}
+use Rattle.prospects.specs.Changes.{AllFit, SameBefore}
 use Rattle.prospects.specs.Chosen.{HoldsTables, Chosen, Pending, Undone}
 use Rattle.prospects.specs.Chosen as chosen
 use Rattle.search.specs.declared.Progress.{Progress}
@@ -168,7 +167,7 @@ pub record OwnNow (t : Tables) (pending : Option ℕ) (old new : Course) : Type 
 -- the changes of entering a set are undone if it was entered: if nothing is pending of a set with a last member
 abbrev pub Leaving : Tables → Option ℕ → Option ℕ → Course → Type 0
 Leaving t last pending course = (l : ℕ) → last ≡ Some l → pending ≡ None
-    → (length course.members.items ≤ 15) × (1 ≤ l) × (l ≤ row_count t.relations.now) × Row (later_in t.relations.now l) l 65
+    → (length course.members.items ≤ 15) × (1 ≤ l) × (l ≤ row_count t.relations.now) × AllFit (later_in t.relations.now l)
 
 pub record UndoneIn (t : Tables) (last pending : Option ℕ) (old new : Course) : Type 0 where
   pub undone : (l : ℕ) → last ≡ Some l → pending ≡ None → Undone (later_in t.relations.now l) (length old.members.items) old.prospects new.prospects
@@ -192,7 +191,7 @@ pub record Left (N : Network) (f : Found) (old new : Course) : Type 0 where
   pub found : found_in N new.progress ≡ f
   pub counted : Counted N new.progress
   pub members : new.members.items ≡ old.members.items
-  pub outlook : AllSame old.prospects.outlook new.prospects.outlook
+  pub outlook : new.prospects.outlook ≡ old.prospects.outlook
   pub kept : SameBefore (length old.members.items) old.prospects.kept new.prospects.kept
 
 -- before the walk

@@ -216,8 +216,8 @@ impl Course {
     {
         if let Some(last) = last {
             if pending.is_none() {
-                self.prospects
-                    .leave(tables.relations, self.members.len(), last);
+                let places = tables.relations.later(last);
+                self.prospects.leave(places, self.members.len());
             }
         }
     }

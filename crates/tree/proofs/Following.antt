@@ -20,9 +20,6 @@ pub record Following (y₀ : Supply) (fed : Option ℕ) (ends : List End) (y : S
   pub orders : y.order.items ++ map (λ e. e.line) (leaving fed rest) ≡ y₀.order.items ++ map (λ e. e.line) (leaving fed ends)
 
 module _ {y₀ : Supply} {fed : Option ℕ} {ends : List End} where
-  pub following-start : Room y₀ ends fed → Following y₀ fed ends y₀ ends
-  following-start m = record { room = m; feeds = refl; orders = refl }
-
   module _ {y : Supply} where
     -- the list is at its end
     pub following-end : Following y₀ fed ends y [] → Added (leaving fed ends) fed y₀ y

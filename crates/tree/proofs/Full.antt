@@ -50,12 +50,14 @@ pub held_tree : (N : Network) (t : Tree) → ∥ HoldsTree N t ∥₁ → HoldsT
 held_tree N t h = record {
   stations = ∥∥₁_elim h (hlevel props) (λ o. o.stations);
   lines = ∥∥₁_elim h (hlevel props) (λ o. o.lines);
-  has = λ s a. record {
-    low = ∥∥₁_elim h (hlevel props) (λ o. (o.has s a).low);
-    high = ∥∥₁_elim h (hlevel props) (λ o. (o.has s a).high);
-    listed = held_listed t.lists.nexts 1537 (get_or t.lists.firsts (s - 1) None) (λ d e. omega arith) (∥∥₁_map h (λ o. (o.has s a).listed));
+  linked = record {
+    has = λ s a. record {
+      low = ∥∥₁_elim h (hlevel props) (λ o. (o.linked.has s a).low);
+      high = ∥∥₁_elim h (hlevel props) (λ o. (o.linked.has s a).high);
+      listed = held_listed t.lists.nexts 1537 (get_or t.lists.firsts (s - 1) None) (λ d e. omega arith) (∥∥₁_map h (λ o. (o.linked.has s a).listed));
+    };
+    ends = ∥∥₁_elim h (hlevel props) (λ o. o.linked.ends);
   };
-  ends = ∥∥₁_elim h (hlevel props) (λ o. o.ends);
   nears = ∥∥₁_elim h (hlevel props) (λ o. o.nears);
   feeds = ∥∥₁_elim h (hlevel props) (λ o. o.feeds);
   count = ∥∥₁_elim h (hlevel props) (λ o. o.count);

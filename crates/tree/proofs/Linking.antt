@@ -14,10 +14,14 @@ use Rattle.std.specs.Prelude.{Option, None, Some}
 use Rattle.model.specs.Lists.{keep}
 use Rattle.model.specs.Network.{Network}
 use Rattle.model.specs.Paths.{End, is_open, station_at}
-use Rattle.network.specs.There.{LineThere}
-use Rattle.tree.specs.Linked.{end_code, code_end, EndHeld, Chain, over, link}
-use Rattle.tree.specs.Queue.{at_above, LinkedAbove, Linked}
+use Rattle.theory.specs.Reading.{Read}
+use Rattle.network.specs.There.{StationThere, LineThere}
+use Rattle.tree.specs.Linked.{end_code, code_end, EndHeld, Chain, over, link, ends_at}
+use Rattle.tree.specs.Held.{HoldsLists}
+use Rattle.tree.specs.Queue.{at_above, LinkedAbove}
 use Rattle.tree.specs.declared.Lists.{Lists}
+use Rattle.tree.proofs.Chains.{whole-chain}
+use Rattle.tree.proofs.Fitting.{read_fits}
 use Rattle.tree.proofs.Codes.{above-none, above-all, above-closed, above_open}
 
 -- a list whose codes are all above c keeps its ends when the end after c changes
@@ -44,8 +48,14 @@ module _ (N : Network) where
     above = λ s a b d e. absurd (never (z (s - 1)) e);
   }
 
-  pub linked-end : (x : Lists) → LinkedAbove N 0 x → Linked N x
-  linked-end x l s a b = subst (λ es. Chain x.nexts (get_or x.firsts (s - 1) None) (keep (λ e. eqb (station_at N e) s) es)) (above-all N) (l.lists s a b)
+  pub linked-end : (x : Lists) → Read N → LinkedAbove N 0 x → HoldsLists N x
+  linked-end x d l = record {
+    has = λ s i. record { low = i.low; high = omega (arith, i.high, (read_fits N d).stations); listed = (ends_at N s, whole s i) };
+    ends = λ s i. whole-chain (whole s i);
+  }
+    where
+      whole : (s : ℕ) → StationThere N s → Chain x.nexts (get_or x.firsts (s - 1) None) (ends_at N s)
+      whole s i = subst (λ es. Chain x.nexts (get_or x.firsts (s - 1) None) (keep (λ e. eqb (station_at N e) s) es)) (above-all N) (l.lists s i.low i.high)
 
   module _ (c : ℕ) (a : 1 ≤ c) (b : c ≤ 2 * length N.lines) (chains nexts : List (Option ℕ)) (l : LinkedAbove N c (record { firsts = chains; nexts = nexts })) where
     -- an open end is in no list

@@ -10,7 +10,7 @@ use native.Mathlib.Numerals.{add-one}
 use native.Mathlib.Omega.{arith}
 use lib.Dec.{eqb}
 use lib.ListN.{length, get_or, take, length-append, length-map}
-use lib.Seq.{take-suc, take-append-le, take_all}
+use lib.Seq.{take-suc, take-append-le}
 use Rattle.std.specs.Prelude.{Option, None, Some}
 use Rattle.model.specs.Network.{Network}
 use Rattle.model.specs.Paths.{station, line, End, is_open, station_at, closed_ends, is_hv, at_hv}
@@ -25,14 +25,12 @@ use Rattle.network.specs.There.{LineThere}
 use Rattle.network.specs.Found.{found, found-is}
 use Rattle.tree.specs.Linked.{LineHeld, ends_at}
 use Rattle.tree.specs.Outwards.{near_end}
-use Rattle.tree.specs.Held.{HasList, listed_ends, noted_near, HoldsTree}
-use Rattle.tree.specs.Queue.{Linked, leaving, Room, Added, Laid, Told, Queue, HVBelow, Reached, Whole}
+use Rattle.tree.specs.Held.{noted_near, HoldsEnds, HoldsTree}
+use Rattle.tree.specs.Queue.{leaving, Room, Added, Laid, Told, Queue, HVBelow, Reached, Whole}
 use Rattle.tree.specs.Feeding.{FarEnd}
-use Rattle.tree.specs.declared.Lists.{Lists}
 use Rattle.tree.specs.declared.Supply.{Supply}
 use Rattle.tree.specs.declared.Tree.{Tree}
 use Rattle.tree.proofs.Fitting.{read_fits, line_held}
-use Rattle.tree.proofs.Chains.{whole-chain}
 use Rattle.tree.proofs.Near.{near-end, hv-path, far-first}
 use Rattle.tree.proofs.Leaving.{Leaves, leaves-hv, leaves-far}
 use Rattle.tree.proofs.Adding.{fed-length, Placed, told-after}
@@ -51,14 +49,6 @@ in-take [] zero m = m
 in-take [] (suc i) m = m
 in-take (x ∷ xs) zero m = absurd (Memᴰ.not-nil m)
 in-take (x ∷ xs) (suc i) m = ⊎_elim (λ e. Memᴰ.head e) (λ k. Memᴰ.tail (in-take xs i k)) (Memᴰ.cases_cons m)
-
--- the list of a station
-module _ (N : Network) (d : Read N) (x : Lists) (k : Linked N x) (s : ℕ) (i : In N (station s)) where
-  pub linked-has : HasList x s
-  linked-has = record { low = i.0; high = omega (arith, i.1, (read_fits N d).stations); listed = (ends_at N s, k s i.0 i.1) }
-
-  pub linked-ends : listed_ends x s ≡ ends_at N s
-  linked-ends = whole-chain (k s i.0 i.1)
 
 module _ (N : Network) (d : Read N) (r : Rules N) where
   pub queue-start : (y : Supply) → y.order.items ≡ [] → length y.lines ≡ 768 → Queue N (HVBelow N 1) y
@@ -234,16 +224,11 @@ module _ (N : Network) (d : Read N) (r : Rules N) where
             added : Added (leaving (Some l) (ends_at N (station_at N f))) (Some l) y y'
             added = subst (λ es. Added (leaving (Some l) es) (Some l) y y') z a
 
-  -- every line has had its turn
-  pub queue-end : (i : ℕ) (y : Supply) → Queue N (Reached N (take i y.order.items)) y → length y.order.items ≤ i → Whole N y
-  queue-end i y q h = subst (λ ls. Queue N (Reached N ls) y) (take_all i y.order.items h) q
-
-  pub grown : (t : Tree) → Linked N t.lists → Whole N t.supply → HoldsTree N t
+  pub grown : (t : Tree) → HoldsEnds N t → Whole N t.supply → HoldsTree N t
   grown t k q = record {
     stations = (read_fits N d).stations;
     lines = (read_fits N d).lines;
-    has = λ s i. linked-has N d t.lists k s (i.low, i.high);
-    ends = λ s i. linked-ends N d t.lists k s (i.low, i.high);
+    linked = k;
     nears = λ l i. (q.told l (all l i)).0;
     feeds = λ l i. (q.told l (all l i)).1;
     count = full;

@@ -20,6 +20,11 @@ pub record HasList (x : Lists) (s : ℕ) : Type 0 where
 abbrev pub listed_ends : Lists → ℕ → List End
 listed_ends x s = along 1536 x.nexts (get_or x.firsts (s - 1) None)
 
+-- the lists of a network: each station's has the closed ends at it
+pub record HoldsLists (N : Network) (x : Lists) : Type 0 where
+  pub has : (s : ℕ) → StationThere N s → HasList x s
+  pub ends : (s : ℕ) → StationThere N s → listed_ends x s ≡ ends_at N s
+
 -- what is noted of a line: how it is fed, and with that its near end and the line that feeds it
 abbrev pub no_feed : Feed
 no_feed = record { side = One; feeder = None }
@@ -40,6 +45,10 @@ HasEnds t s = HasList t.lists s
 abbrev pub ends_in : Tree → ℕ → List End
 ends_in t s = listed_ends t.lists s
 
+-- it has the lists of a network
+abbrev pub HoldsEnds : Network → Tree → Type 0
+HoldsEnds N t = HoldsLists N t.lists
+
 -- what it has of a line: its near end, and the line that feeds it
 abbrev pub near_in : Tree → ℕ → End
 near_in t l = noted_near t.supply.lines l
@@ -54,9 +63,7 @@ lines_in t = t.supply.order.items
 pub record HoldsTree (N : Network) (t : Tree) : Type 0 where
   pub stations : length N.stations ≤ 512
   pub lines : length N.lines ≤ 768
-  -- each station's list has the closed ends at it
-  pub has : (s : ℕ) → StationThere N s → HasEnds t s
-  pub ends : (s : ℕ) → StationThere N s → ends_in t s ≡ ends_at N s
+  pub linked : HoldsEnds N t
   -- each line's near end, and the line that feeds it
   pub nears : (l : ℕ) → LineThere N l → near_in t l ≡ near_end N l
   pub feeds : (l : ℕ) → LineThere N l → feeder_in t l ≡ fed_by N l

@@ -9,7 +9,7 @@ use Rattle.graphs.specs.Graph.{NoRepeat}
 use Rattle.theory.specs.Radial.{In}
 use Rattle.theory.specs.Behind.{far}
 use Rattle.network.specs.View.{side_of}
-use Rattle.tree.specs.Linked.{code_end, LineHeld, Chain, ends_at}
+use Rattle.tree.specs.Linked.{code_end, LineHeld, Chain}
 use Rattle.tree.specs.Outwards.{near_end, feeder, fed_by}
 use Rattle.tree.specs.Held.{noted_near, noted_feeder}
 use Rattle.tree.specs.declared.Lists.{Lists}
@@ -28,10 +28,6 @@ at_above N s c = keep (λ e. eqb (station_at N e) s) (closed_above N c)
 pub record LinkedAbove (N : Network) (c : ℕ) (x : Lists) : Type 0 where
   pub lists : (s : ℕ) → 1 ≤ s → s ≤ length N.stations → Chain x.nexts (get_or x.firsts (s - 1) None) (at_above N s c)
   pub above : (s : ℕ) → 1 ≤ s → s ≤ length N.stations → (d : ℕ) → get_or x.firsts (s - 1) None ≡ Some d → c < d
-
--- each station's list has the closed ends at it
-abbrev pub Linked : Network → Lists → Type 0
-Linked N x = (s : ℕ) → 1 ≤ s → s ≤ length N.stations → Chain x.nexts (get_or x.firsts (s - 1) None) (ends_at N s)
 
 -- ── one list of ends ──
 -- whether an end is of the line that feeds its station

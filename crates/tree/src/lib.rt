@@ -8,8 +8,8 @@ ghost use Rattle.theory.specs.Radial.{Rules};
 ghost use Rattle.theory.specs.Behind.{far};
 ghost use Rattle.network.specs.There.{LineThere};
 ghost use Rattle.tree.specs.Linked.{end_code, code_end, LineHeld, EndHeld};
-ghost use Rattle.tree.specs.Held.{HasList, listed_ends, noted_near, HasEnds, ends_in, near_in, feeder_in, lines_in, HoldsTree};
-ghost use Rattle.tree.specs.Queue.{LinkedAbove, Linked, of_feeder, leaving, Room, Added, Queue, Reached, Whole};
+ghost use Rattle.tree.specs.Held.{HasList, listed_ends, HoldsLists, noted_near, HasEnds, ends_in, HoldsEnds, near_in, feeder_in, lines_in, HoldsTree};
+ghost use Rattle.tree.specs.Queue.{LinkedAbove, of_feeder, leaving, Room, Added, Queue, Reached, Whole};
 
 use arrayvec::ArrayVec;
 use network::{End, Network, Side};
@@ -113,7 +113,7 @@ impl Lists {
     // Links the closed ends of a network, from the last line to the first.
     fn link(&mut self, net: &Network)
         requires { Read net.now }
-        ensures { Linked net.now self.new }
+        ensures { HoldsLists net.now self.new }
     {
         self.clear();
         for line in (1..net.line_count() + 1).rev() {
@@ -217,7 +217,7 @@ impl Supply {
 
     // Notes the lines that leave the HV stations.
     fn start(&mut self, net: &Network, lists: &Lists)
-        requires { Read net.now × Rules net.now × Linked net.now lists.now }
+        requires { Read net.now × Rules net.now × HoldsLists net.now lists.now }
         ensures { Queue net.now (Reached net.now []) self.new }
     {
         self.clear();
@@ -230,7 +230,7 @@ impl Supply {
 
     // Notes the lines that leave the far station of the line at place i of the order, if its far end is closed.
     fn follow(&mut self, net: &Network, lists: &Lists, i: usize)
-        requires read { Read net.now × Rules net.now × Linked net.now lists.now }
+        requires read { Read net.now × Rules net.now × HoldsLists net.now lists.now }
         requires queue { Queue net.now (Reached net.now (take i self.old.order.items)) self.old
             × (i < length self.old.order.items) }
         ensures { Queue net.now (Reached net.now (take (i + 1) self.new.order.items)) self.new
@@ -245,7 +245,7 @@ impl Supply {
 
     // Notes all lines, from the HV stations outwards.
     fn spread(&mut self, net: &Network, lists: &Lists)
-        requires { Read net.now × Rules net.now × Linked net.now lists.now }
+        requires { Read net.now × Rules net.now × HoldsLists net.now lists.now }
         ensures { Whole net.now self.new }
     {
         self.start(net, lists);
@@ -259,7 +259,7 @@ impl Supply {
 }
 
 // The tree of a radial network. It does not borrow its network, beside which it lies in a loaded file, since a value can't borrow from
-// itself: so that it is the network's (`HoldsTree`, and `Linked` of its lists) stands in the clauses.
+// itself: so that it is the network's (`HoldsTree`, and `HoldsEnds` of its lists alone) stands in the clauses.
 #[derive(Drop)]
 pub struct Tree {
     lists: Lists,
@@ -277,12 +277,22 @@ impl Tree {
         }
     }
 
+    // Makes its lists those of a network, which need not be radial.
+    pub fn link(&mut self, net: &Network)
+        requires { Read net.now }
+        ensures ends { HoldsEnds net.now self.new }
+        ensures others { ((l : ℕ) → (near_in self.new l ≡ near_in self.old l) × (feeder_in self.new l ≡ feeder_in self.old l))
+            × (lines_in self.new ≡ lines_in self.old) }
+    {
+        self.lists.link(net);
+    }
+
     // Makes it the tree of a network.
     pub fn grow(&mut self, net: &Network)
         requires { Read net.now × Rules net.now }
         ensures { HoldsTree net.now self.new }
     {
-        self.lists.link(net);
+        self.link(net);
         self.supply.spread(net, &self.lists);
     }
 

@@ -22,7 +22,7 @@ returns-in_err-read_stations c =
     let e₁ = h.ensures.answer ∙ ap (λ bs. first_head (records_of bs)) c.of-records.ensures.0 in
     let rs₁ = records_of c.read_head.new.records.rest.now in
     let err : c.from_residual-in_err-read_stations.result ≡ Err c.in_err-read_stations.field-0.0 = search rules in
-    rw err (stations_stopped file short h.field-0 rs₁ e₁ c.clear.new.self c.clear.ensures c.read_head.new.records.number h.ensures.goes_on.0 _ _ c.in_err-read_stations.ensures.answer)
+    rw err (stations_stopped file short h.field-0 rs₁ e₁ c.clear.new.self c.clear.ensures c.read_head.new.records.number h.ensures.goes_on _ _ c.in_err-read_stations.ensures.answer)
 
 pub returns-in_err-read_lines : goal.returns-in_err-read_lines
 returns-in_err-read_lines c =
@@ -34,7 +34,7 @@ returns-in_err-read_lines c =
     let rs₂ = records_of c.read_stations.new.records.rest.now in
     let s = c.in_ok-read_stations.ensures in
     let err : c.from_residual-in_err-read_lines.result ≡ Err c.in_err-read_lines.field-0.0 = search rules in
-    rw err (lines_stopped file short h.field-0 rs₁ e₁ c.clear.new.self c.clear.ensures c.read_head.new.records.number h.ensures.goes_on.0 c.read_stations.new.net rs₂ s.answer s.others.0 c.read_stations.new.records.number s.goes_on.0 _ _ c.in_err-read_lines.ensures.answer)
+    rw err (lines_stopped file short h.field-0 rs₁ e₁ c.clear.new.self c.clear.ensures c.read_head.new.records.number h.ensures.goes_on c.read_stations.new.net rs₂ s.answer s.others.0 c.read_stations.new.records.number s.goes_on _ _ c.in_err-read_lines.ensures.answer)
 
 pub returns : goal.returns
 returns c =
@@ -47,4 +47,4 @@ returns c =
     let s = c.in_ok-read_stations.ensures in
     let l = c.in_ok-read_lines.ensures in
     c.read_places.ensures
-    ∙ places_left file short h.field-0 rs₁ e₁ c.clear.new.self c.clear.ensures c.read_head.new.records.number h.ensures.goes_on.0 c.read_stations.new.net rs₂ s.answer s.others.0 c.read_stations.new.records.number s.goes_on.0 c.read_lines.new.net (records_of c.read_lines.new.records.rest.now) l.answer c.read_lines.new.records.number l.goes_on.1
+    ∙ places_left file short h.field-0 rs₁ e₁ c.clear.new.self c.clear.ensures c.read_head.new.records.number h.ensures.goes_on c.read_stations.new.net rs₂ s.answer s.others.0 c.read_stations.new.records.number s.goes_on c.read_lines.new.net (records_of c.read_lines.new.records.rest.now) l.answer c.read_lines.new.records.number l.goes_on.1

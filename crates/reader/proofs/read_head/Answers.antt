@@ -15,7 +15,7 @@ returns-in_err-row-clause-answer c =
     let rs = records_of c.args.records.now.rest.now in
     let refused : c.from_residual.result ≡ Err c.in_err-row.field-0.0 = search rules in
     ap (λ r. head_says r c.next.new.self.rest.now) refused
-    ∙ ap (λ a. a >>= λ p. given (head_of p.0, p.1)) (c.in_err-row.ensures.numbers ∙ ap (λ i. next_record 0 0 i kind_n rs) c.requires.0)
+    ∙ ap (λ a. a >>= λ p. given (head_of p.0, p.1)) (c.in_err-row.ensures.numbers ∙ ap (λ i. next_record 0 0 i kind_n rs) c.requires)
 
 pub head_of-requires : goal.head_of-requires
 unfolding kind_of kind_n row_n
@@ -26,7 +26,7 @@ unfolding first_head kind_of
 returns-clause-answer c =
     let rs = records_of c.args.records.now.rest.now in
     ap (λ h. given (h, records_of c.next.new.self.rest.now)) (c.head_of.ensures ∙ ap head_of c.deref.ensures.0)
-    ∙ ap (λ a. a >>= λ p. given (head_of p.0, p.1)) (c.in_ok-row.ensures.numbers ∙ ap (λ i. next_record 0 0 i kind_n rs) c.requires.0)
+    ∙ ap (λ a. a >>= λ p. given (head_of p.0, p.1)) (c.in_ok-row.ensures.numbers ∙ ap (λ i. next_record 0 0 i kind_n rs) c.requires)
 
 pub returns-clause-few : goal.returns-clause-few
 unfolding kind_of kind_n row_n head_of

@@ -7,7 +7,7 @@ use Rattle.ranges.specs.Kinds.{kind_of}
 use Rattle.network.specs.Changed.{with_lines, with_one_more_line}
 use Rattle.reader.specs.Reading.{left_says}
 use Rattle.reader.proofs.Ranged.{line-bounds}
-use Rattle.reader.proofs.Turns.{turns, turned, stopped, turn, put_lines, add_line, no-lines, one-line, lines-turn}
+use Rattle.reader.proofs.Turns.{turned, stopped, turn, lines_part, lines-turn}
 use Rattle.reader.proofs.read_lines.Goals as goal
 
 pub loop-init : goal.loop-init
@@ -15,27 +15,23 @@ loop-init c =
     let N = c.args.net.now in
     let i = c.args.records.now.number in
     let rs = records_of c.args.records.now.rest.now in record {
-      answer = ap (λ h. turns kind_l put_lines add_line h N i (h.lines - 0) rs) c.head-head.ensures
-          ∙ ap (λ n. turns kind_l put_lines add_line N.head N i n rs) {x = N.head.lines - 0} {y = N.head.lines} (omega arith)
-          ∙ lines-turn N i N.head.lines rs;
+      answer = lines-turn N i rs c.head-head.result.now c.head-head.ensures _ (omega arith);
       head = refl;
       others = (refl, refl);
       first = c.head-head.ensures;
       count = ap (λ xs. length xs) c.requires.0;
       number = omega arith;
-      rest = omega arith;
     }
 
 pub returns-in_err-row-clause-answer : goal.returns-in_err-row-clause-answer
-unfolding kind_of
+unfolding kind_of lines_part
 returns-in_err-row-clause-answer c =
     let h = c.head-head.result.now in
     let l = c.loop in
     let rs = records_of l.records.rest.now in
     let refused : c.from_residual.result ≡ Err c.in_err-row.field-0.0 = search rules in
     ap (λ r. left_says r l.net c.next.new.self.rest.now) refused
-    ∙ sym (stopped kind_l put_lines add_line h l.net l.records.number rs (h.lines - (l.counter + 1)) _ _ c.in_err-row.ensures.numbers)
-    ∙ ap (λ n. turns kind_l put_lines add_line h l.net l.records.number n rs) {y = h.lines - l.counter} (omega arith)
+    ∙ sym (stopped lines_part h l.net l.records.number rs (h.lines - l.counter) (h.lines - (l.counter + 1)) (omega arith) _ _ c.in_err-row.ensures.numbers)
     ∙ l.invariant.answer
 
 pub line_of-requires : goal.line_of-requires
@@ -47,26 +43,22 @@ line_of-requires c =
     (len, subst (λ vs. value vs 3 ≤ 2) (sym c.deref.ensures.0) b.0, subst (λ vs. value vs 4 ≤ 2) (sym c.deref.ensures.0) b.1)
 
 pub loop-preserved : goal.loop-preserved
-unfolding kind_of with_one_more_line with_lines
+unfolding kind_of lines_part with_one_more_line with_lines
 loop-preserved c =
     let h = c.head-head.result.now in
     let l = c.loop in
     let vs = c.in_ok-row.row.items in
     let rs = records_of l.records.rest.now in
     let rest = records_of c.next.new.self.rest.now in
-    let on = c.in_ok-row.ensures.goes_on in
-    let m : c.add_line.new.self ≡ add_line l.net vs = c.add_line.ensures ∙ ap (with_one_more_line l.net) (c.line_of.ensures ∙ ap line_of c.deref.ensures.0) in record {
-      answer = ap (λ M. turns kind_l put_lines add_line h M c.next.new.self.number (h.lines - (l.counter + 1)) rest) m
-          ∙ ap (λ i. turns kind_l put_lines add_line h (add_line l.net vs) i (h.lines - (l.counter + 1)) rest) on.0
-          ∙ sym (turn kind_l put_lines add_line h l.net l.records.number rs (h.lines - (l.counter + 1)) vs rest c.in_ok-row.ensures.numbers (one-line l.net vs))
-          ∙ ap (λ n. turns kind_l put_lines add_line h l.net l.records.number n rs) {y = h.lines - l.counter} (omega arith)
+    let on = c.in_ok-row.ensures.goes_on.0 in
+    let m : c.add_line.new.self ≡ with_one_more_line l.net (line_of vs) = c.add_line.ensures ∙ ap (with_one_more_line l.net) (c.line_of.ensures ∙ ap line_of c.deref.ensures.0) in record {
+      answer = sym (turn lines_part h l.net l.records.number rs (h.lines - l.counter) (h.lines - (l.counter + 1)) (omega arith) vs rest c.in_ok-row.ensures.numbers _ m _ on)
           ∙ l.invariant.answer;
       head = ap (λ M. M.head) m ∙ l.invariant.head;
       others = (ap (λ M. M.stations) m ∙ l.invariant.others.0, ap (λ M. M.places) m ∙ l.invariant.others.1);
       first = l.invariant.first;
       count = ap (λ M. length M.lines) m ∙ length-append l.net.lines (line_of vs ∷ []) ∙ ap (λ n. n + 1) l.invariant.count;
-      number = omega (arith, on.0);
-      rest = omega (arith, on.0, on.1);
+      number = omega (arith, on);
     }
 
 pub returns-clause-answer : goal.returns-clause-answer
@@ -74,6 +66,4 @@ returns-clause-answer c =
     let h = c.head-head.result.now in
     let l = c.loop in
     let rs = records_of l.records.rest.now in
-    sym (turned kind_l put_lines add_line h l.net l.records.number rs (no-lines l.net))
-    ∙ ap (λ n. turns kind_l put_lines add_line h l.net l.records.number n rs) {x = 0} {y = h.lines - l.counter} (omega arith)
-    ∙ l.invariant.answer
+    sym (turned lines_part h l.net l.records.number rs (h.lines - l.counter) (omega arith)) ∙ l.invariant.answer

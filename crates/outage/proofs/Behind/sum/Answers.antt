@@ -12,7 +12,7 @@ loop-station-init c = (omega (arith, c.station_count-station-end.ensures.count),
 pub station_sum-requires : goal.station_sum-requires
 station_sum-requires c =
     let N = c.args.net.now in (
-      record { read = c.requires.0; rules = c.requires.1; tree = c.requires.2 },
+      record { read = c.requires.0; rules = c.requires.1; ends = c.requires.2 },
       at-hv N c.requires.0 c.requires.1 c.loop-station.station _ (sym c.is_hv.ensures ∙ c.if-is_hv.true) (omega (arith, closed-length N, c.line_count.ensures.count)),
     )
 

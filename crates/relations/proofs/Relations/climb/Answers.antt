@@ -54,9 +54,12 @@ loop-next-preserved c =
           (subst (λ x. Climbed (length N.places) (is_above N) p x c.args.self.now.between between) was c.loop-next.invariant.1)),
     )
 
-pub returns : goal.returns
-returns c =
+pub returns-clause-noted : goal.returns-clause-noted
+returns-clause-noted c =
     let N = c.args.routes.now.net.now in
     let y = (routed c.args.routes.now).accepted in
     climb-end (length N.places) (is_above N) (place_above N) (λ p. length (onward N (end_at N p))) (climb-places N y) y.read.place_count c.args.place (c.requires.low, c.requires.high) c.args.self.now.between c.loop-next.self.between
     (subst (λ x. Climbed (length N.places) (is_above N) c.args.place x c.args.self.now.between c.loop-next.self.between) (ap number c.in_default.is) c.loop-next.invariant.1)
+
+pub returns-clause-row_zero : goal.returns-clause-row_zero
+returns-clause-row_zero c = c.loop-next.invariant.1.kept

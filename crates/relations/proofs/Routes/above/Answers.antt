@@ -1,27 +1,29 @@
-use mathlib.Core.Path.{sym, ap, ◌∙◌, subst}
+use Prim.Native.Nat.{ℕ}
+use mathlib.Core.Path.{◌≡◌, sym, ap, ◌∙◌, subst}
 use mathlib.Core.Bool.{not}
 use Rattle.model.specs.Paths.{End, same_end}
+use Rattle.savings.specs.Breakers.{end_at}
+use Rattle.network.specs.There.{PlaceThere}
 use Rattle.tree.specs.Linked.{LineHeld}
 use Rattle.tree.specs.Held.{near_in, feeder_in}
 use Rattle.paths.specs.Held.{first_in}
 use Rattle.std.proofs.lemmas.Bool.{not-true, not-false}
+use Rattle.relations.specs.declared.Routes.{Routes}
 use Rattle.relations.proofs.Above.{line-held, above-far, above-hv, feeder-held, above-fed}
 use Rattle.relations.proofs.Routed.{routed}
 use Rattle.relations.proofs.Routes.above.Goals as goal
 
+-- the line of a place's end
+held : (r : Routes) (p : ℕ) → PlaceThere r.net.now p → {e : End} → e ≡ end_at r.net.now p → LineHeld e.line
+held r p i is =
+    let h = routed r in
+    subst LineHeld (sym (ap (λ (e : End). e.line) is)) (line-held r.net.now h.accepted r.tree.now r.firsts.now h.tree h.firsts p (i.low, i.high))
+
 pub is_far-requires : goal.is_far-requires
-is_far-requires c =
-    let s = c.args.self.now in
-    let r = routed s in
-    subst LineHeld (sym (ap (λ (e : End). e.line) c.place_end-end.ensures))
-    (line-held s.net.now r.accepted s.tree.now s.firsts.now r.tree r.firsts c.args.place (c.requires.low, c.requires.high))
+is_far-requires c = held c.args.self.now c.args.place c.requires c.place_end-end.ensures
 
 pub first-requires : goal.first-requires
-first-requires c =
-    let s = c.args.self.now in
-    let r = routed s in
-    subst LineHeld (sym (ap (λ (e : End). e.line) (c.end.view_is ∙ c.place_end-end.ensures)))
-    (line-held s.net.now r.accepted s.tree.now s.firsts.now r.tree r.firsts c.args.place (c.requires.low, c.requires.high))
+first-requires c = held c.args.self.now c.args.place c.requires (c.end.view_is ∙ c.place_end-end.ensures)
 
 pub returns-then-is_far : goal.returns-then-is_far
 returns-then-is_far c =
@@ -33,11 +35,7 @@ returns-then-is_far c =
     (not-true _ (sym (c.is_far.ensures ∙ ap (λ (e : End). not (same_end e (near_in s.tree.now e.line))) c.place_end-end.ensures) ∙ c.if-is_far.true))
 
 pub feeder-requires : goal.feeder-requires
-feeder-requires c =
-    let s = c.args.self.now in
-    let r = routed s in
-    subst LineHeld (sym (ap (λ (e : End). e.line) (c.end.view_is ∙ c.place_end-end.ensures)))
-    (line-held s.net.now r.accepted s.tree.now s.firsts.now r.tree r.firsts c.args.place (c.requires.low, c.requires.high))
+feeder-requires c = held c.args.self.now c.args.place c.requires (c.end.view_is ∙ c.place_end-end.ensures)
 
 pub returns-in_err-feeder : goal.returns-in_err-feeder
 returns-in_err-feeder c =

@@ -23,4 +23,4 @@ loop-line-preserved c =
     )
 
 pub returns : goal.returns
-returns c = let h = c.loop-line in linked-end c.args.net.now h.self (subst (λ n. LinkedAbove c.args.net.now n h.self) (omega arith) h.invariant.2)
+returns c = let h = c.loop-line in linked-end c.args.net.now h.self c.requires (subst (λ n. LinkedAbove c.args.net.now n h.self) (omega arith) h.invariant.2)

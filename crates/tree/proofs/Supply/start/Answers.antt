@@ -1,5 +1,5 @@
 use Rattle.std.proofs.Common.{sym, ◌∙◌, arith}
-use Rattle.tree.proofs.Queueing.{queue-start, hv-skip, hv-room, hv-add, hv-end, linked-has, linked-ends}
+use Rattle.tree.proofs.Queueing.{queue-start, hv-skip, hv-room, hv-add, hv-end}
 use Rattle.tree.proofs.Supply.start.Goals as goal
 use Rattle.tree.proofs.Supply.start.Goals.{then-is_hv, else-is_hv}
 
@@ -7,13 +7,13 @@ pub loop-station-init : goal.loop-station-init
 loop-station-init c = (omega (arith, c.station_count-station-end.ensures.count), omega arith, omega arith, queue-start _ c.requires.0 c.requires.1 c.clear.new.self c.clear.ensures.0 c.clear.ensures.1)
 
 pub closed_ends-requires : goal.closed_ends-requires
-closed_ends-requires c = let h = c.loop-station in linked-has _ c.requires.0 c.args.lists.now c.requires.2 h.station (omega arith, omega (arith, h.invariant.0))
+closed_ends-requires c = let h = c.loop-station in c.requires.2.has h.station (record { low = omega arith; high = omega (arith, h.invariant.0) })
 
 pub append-requires : goal.append-requires
 append-requires c =
     let h = c.loop-station in
     hv-room _ c.requires.0 c.requires.1 h.station h.self h.invariant.3 (sym c.is_hv.ensures ∙ c.if-is_hv.true) _
-    (c.closed_ends.ensures ∙ linked-ends _ c.requires.0 c.args.lists.now c.requires.2 h.station (omega arith, omega (arith, h.invariant.0)))
+    (c.closed_ends.ensures ∙ c.requires.2.ends h.station (record { low = omega arith; high = omega (arith, h.invariant.0) }))
 
 pub loop-station-preserved : goal.loop-station-preserved
 loop-station-preserved c =
@@ -25,7 +25,7 @@ loop-station-preserved c =
         omega arith,
         omega arith,
         hv-add _ c.requires.0 c.requires.1 h.station h.self h.invariant.3 (e ∙ w.if-is_hv.true) _
-            (w.closed_ends.ensures ∙ linked-ends _ c.requires.0 c.args.lists.now c.requires.2 h.station (omega arith, omega (arith, h.invariant.0))) _ w.append.ensures,
+            (w.closed_ends.ensures ∙ c.requires.2.ends h.station (record { low = omega arith; high = omega (arith, h.invariant.0) })) _ w.append.ensures,
       )
       | else-is_hv w ↦ rw w.self-is (h.invariant.0, omega arith, omega arith, hv-skip _ c.requires.0 c.requires.1 h.station h.self h.invariant.3 (e ∙ w.if-is_hv.false))
     ]
