@@ -65,10 +65,9 @@ fn report_network(loaded: &Loaded, text: &mut [u8]) -> usize
         × (text.new ≡ report_text loaded.now.network.now
         ++ drop (length (report_text loaded.now.network.now)) text.old) }
 {
-    let behind = loaded.customers();
     let impacts = loaded.impacts();
     let total = outage::total_of(loaded.network, &impacts);
-    let plan = planning::best_plan(loaded, &behind);
+    let plan = planning::search_network(loaded);
     report::write_report(loaded.network, &impacts, total, &plan, text)
 }
 

@@ -1,11 +1,10 @@
 -- The impacts, from the breakers that trip for the lines and the customers behind the lines of these breakers.
-use Prim.Native.Nat.{ℕ, ◌+◌, ◌-◌, ◌≤◌, ◌<◌}
+use Prim.Native.Nat.{ℕ, ◌+◌, ◌≤◌, ◌<◌}
 use mathlib.Core.Path.{◌≡◌, sym, ap, ◌∙◌, subst}
 use mathlib.Core.Bool.{false}
+use mathlib.Core.Logic.{◌≢◌}
 use native.Mathlib.Decide.{ℕ_discrete}
 use native.Mathlib.Omega.{arith}
-use lib.ListN.{length, get_or, set}
-use lib.Seq.{get_or-set_same, get_or-set_other}
 use Rattle.model.specs.Network.{Network}
 use Rattle.model.specs.Paths.{End, is_open}
 use Rattle.model.specs.Outage.{tripped, impact}
@@ -15,7 +14,7 @@ use Rattle.theory.specs.Radial.{Rules}
 use Rattle.theory.specs.Segments.{tripped-breaker}
 use Rattle.network.specs.There.{LineThere}
 use Rattle.paths.specs.declared.Paths.{Paths}
-use Rattle.paths.specs.Held.{trip_in, HoldsPaths}
+use Rattle.paths.specs.Held.{trip_in, HoldsTrips}
 use Rattle.outage.specs.declared.Behind.{Behind}
 use Rattle.outage.specs.declared.Impacts.{Impacts}
 use Rattle.outage.specs.Held.{customers_in, HoldsCustomers, impact_in}
@@ -26,9 +25,9 @@ module _ (N : Network) (d : Read N) (r : Rules N) (l : ℕ) (i : LineThere N l) 
   trip-closed = breaker-closed N (tripped N l) (tripped-breaker N d r l i.low i.high)
 
   -- the line of the breaker that trips
-  module _ (p : Paths) (t : HoldsPaths N p) (k : ℕ) (q : k ≡ (trip_in p l).line) where
+  module _ (p : Paths) (t : HoldsTrips N p) (k : ℕ) (q : k ≡ (trip_in p l).line) where
     trip-line : k ≡ (tripped N l).line
-    trip-line = q ∙ ap (λ (e : End). e.line) (t.trips l i)
+    trip-line = q ∙ ap (λ (e : End). e.line) (t l i)
 
     pub trip-there : LineThere N k
     trip-there = let x = closed-end N (tripped N l) trip-closed in subst (LineThere N) (sym trip-line) (record { low = x.0; high = x.1 })
@@ -44,12 +43,9 @@ module _ (N : Network) (d : Read N) (r : Rules N) (l : ℕ) (i : LineThere N l) 
 abbrev pub Before : Network → Impacts → ℕ → Type 0
 Before N x l = (k : ℕ) → 1 ≤ k → k < l → impact_in x k ≡ impact N k
 
-pub before-more : (N : Network) (x : Impacts) (l v : ℕ) → 1 ≤ l → l ≤ length x.impacts → v ≡ impact N l → Before N x l → Before N (record { impacts = set x.impacts (l - 1) v }) (l + 1)
-before-more N x l v a n e u k b c = go (ℕ_discrete k l)
+pub before-more : (N : Network) (old new : Impacts) (l v : ℕ) → impact_in new l ≡ v → ((k : ℕ) → 1 ≤ k → k ≢ l → impact_in new k ≡ impact_in old k) → v ≡ impact N l → Before N old l → Before N new (l + 1)
+before-more N old new l v s o e u k b c = go (ℕ_discrete k l)
   where
-    Done : ℕ → Type 0
-    Done k = get_or (set x.impacts (l - 1) v) (k - 1) 0 ≡ impact N k
-
-    go : Dec (k ≡ l) → Done k
-    go (yes q) = subst Done (sym q) (get_or-set_same x.impacts (l - 1) v 0 (omega arith) ∙ e)
-    go (no q) = get_or-set_other x.impacts (l - 1) (k - 1) v 0 (omega arith) ∙ u k b (omega arith)
+    go : Dec (k ≡ l) → impact_in new k ≡ impact N k
+    go (yes q) = subst (λ k. impact_in new k ≡ impact N k) (sym q) (s ∙ e)
+    go (no q) = o k b q ∙ u k b (omega (arith, c, q))

@@ -1,7 +1,7 @@
 // The customers behind each line, the impact of a fault on it, the total of the outage amounts and the SAIDI figure.
 #![tactic(auto)]
 
-ghost use Rattle.std.specs.Prelude.{ℕ, ◌≡◌, ◌+◌, ◌*◌, ◌-◌, ◌^◌, ◌≤◌, ◌<◌};
+ghost use Rattle.std.specs.Prelude.{ℕ, ◌≡◌, ◌≢◌, ◌+◌, ◌*◌, ◌-◌, ◌^◌, ◌≤◌, ◌<◌};
 ghost use Rattle.model.specs.Paths.{is_open};
 ghost use Rattle.model.specs.Outage.{impact, outage_amount, total as total_of, figure};
 ghost use Rattle.theory.specs.Reading.{Read};
@@ -12,7 +12,7 @@ ghost use Rattle.network.specs.There.{LineThere};
 ghost use Rattle.tree.specs.Linked.{LineHeld};
 ghost use Rattle.tree.specs.Outwards.{near_end};
 ghost use Rattle.tree.specs.Held.{HoldsEnds};
-ghost use Rattle.paths.specs.Held.{trip_in, HoldsPaths};
+ghost use Rattle.paths.specs.Held.{trip_in, HoldsTrips};
 ghost use Rattle.outage.specs.Held.{customers_in, HoldsCustomers, impact_in, HoldsImpacts};
 ghost use Rattle.outage.specs.Below.{Ready, came_end, Leaves, AtLine, AtStation, Filled};
 
@@ -146,14 +146,23 @@ impl Impacts {
         Impacts { impacts: [0; 768] }
     }
 
+    // Sets the impact of a fault on a line, and no other's.
+    pub fn set(&mut self, line: usize, impact: u64)
+        requires { LineHeld line }
+        ensures line { impact_in self.new line ≡ impact }
+        ensures others { (l : ℕ) → 1 ≤ l → l ≢ line → impact_in self.new l ≡ impact_in self.old l }
+    {
+        self.impacts[line - 1] = impact;
+    }
+
     // Fills in the impacts of a network's lines.
     pub fn fill(&mut self, net: &Network, paths: &Paths, behind: &Behind)
-        requires { Read net.now × Rules net.now × HoldsPaths net.now paths.now
+        requires { Read net.now × Rules net.now × HoldsTrips net.now paths.now
             × HoldsCustomers net.now behind.now }
         ensures { HoldsImpacts net.now self.new }
     {
         for line in 1..net.line_count() + 1 {
-            self.impacts[line - 1] = behind.customers(trip_line(paths, line));
+            self.set(line, behind.customers(trip_line(paths, line)));
         }
     }
 

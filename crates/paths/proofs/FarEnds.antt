@@ -16,7 +16,7 @@ use Rattle.network.specs.Found.{found}
 use Rattle.tree.specs.Linked.{end_code}
 use Rattle.tree.specs.Outwards.{near_end}
 use Rattle.tree.specs.Feeding.{FarEnd}
-use Rattle.tree.specs.Held.{HoldsTree}
+use Rattle.tree.specs.Held.{HoldsNears}
 use Rattle.tree.specs.declared.Tree.{Tree}
 use Rattle.tree.proofs.Near.{near-end, far-first}
 use Rattle.sets.specs.Stops.{first_place}
@@ -37,10 +37,10 @@ module _ (N : Network) (d : Read N) (r : Rules N) where
   far-path l i j c = (far-first N d r l (i, j) c).path ∙ ap (λ k. far (near_end N l) ∷ route N k) (near-end N d r l (i, j)).own
 
   -- the first place on that path
-  pub first-beyond : (t : Tree) (places : Marks) (f : Firsts) → HoldsTree N t → HoldsPlaces N places → HoldsFirsts N f → (l : ℕ) → LineThere N l
+  pub first-beyond : (t : Tree) (places : Marks) (f : Firsts) → HoldsNears N t → HoldsPlaces N places → HoldsFirsts N f → (l : ℕ) → LineThere N l
       → first_beyond_in f t places l ≡ found (place_on N (first_place (place_ends N) (far_route N l)))
   first-beyond t places f o m h l a =
-      ap (λ e. or_else (mark_on places (far e)) (first_in f l)) (o.nears l a)
+      ap (λ e. or_else (mark_on places (far e)) (first_in f l)) (o l a)
       ∙ first_next N (far (near_end N l)) (route N l) (mark_on places (far (near_end N l))) (first_in f l) marked (h l a)
     where
       n : ((near_end N l).line ≡ l) × (1 ≤ (near_end N l).side) × ((near_end N l).side ≤ 2)

@@ -7,6 +7,8 @@ use native.Mathlib.Decide.{ℕ_discrete}
 use native.Mathlib.Omega.{arith}
 use lib.ListN.{length, get_or, set}
 use lib.Seq.{get_or-set_same, get_or-set_other}
+use native.Mathlib.Decide.{dec_le}
+use Rattle.std.proofs.lemmas.List.{get_or_past}
 use Rattle.model.specs.Network.{Network}
 use Rattle.model.specs.Paths.{line}
 use Rattle.model.specs.Outage.{tripped}
@@ -19,8 +21,9 @@ use Rattle.network.specs.Found.{none-found, some-found}
 use Rattle.tree.specs.Outwards.{near_end, feeder, fed_by}
 use Rattle.tree.specs.Feeding.{Fed, by_hv, by_line}
 use Rattle.tree.specs.Linked.{LineHeld}
-use Rattle.tree.specs.Held.{near_in, feeder_in, lines_in, HoldsTree}
+use Rattle.tree.specs.Held.{near_in, feeder_in, lines_in, HoldsOutwards}
 use Rattle.tree.specs.declared.Tree.{Tree}
+use Rattle.tree.proofs.Fitting.{read_fits}
 use Rattle.tree.proofs.Near.{feeder-none, feeds}
 use Rattle.tree.proofs.Lengths.{closed-length, path-closed, path-short}
 use Rattle.sets.specs.Sets.{route}
@@ -77,23 +80,23 @@ module _ (N : Network) (d : Read N) (r : Rules N) (l : ℕ) (i : 1 ≤ l) (j : l
 module _ {N : Network} {t : Tree} {marks : Marks} {mets : List Met} {l : ℕ} (k : Known N t marks mets l) where
   by_near : met_next (mark_on marks (near_in t l)) (met_on marks (path_beyond N (feeder N l))) ≡ met_on marks (route N l)
   unfolding met_on
-  by_near = ap (λ e. met_next (mark_on marks e) (met_on marks (path_beyond N (feeder N l)))) (k.tree.nears l k.there) ∙ ap (met_on marks) (route-is N k.read k.rules l k.there.low k.there.high)
+  by_near = ap (λ e. met_next (mark_on marks e) (met_on marks (path_beyond N (feeder N l)))) (k.feeders.nears l k.there) ∙ ap (met_on marks) (route-is N k.read k.rules l k.there.low k.there.high)
 
   -- at an HV station
   pub met-hv : feeder_in t l ≡ None → met_next (mark_on marks (near_in t l)) no_met ≡ met_on marks (route N l)
   unfolding met_on
-  met-hv h = ap (λ f. met_next (mark_on marks (near_in t l)) (met_on marks (path_beyond N f))) (sym (fed-none N l (sym (k.tree.feeds l k.there) ∙ h))) ∙ by_near
+  met-hv h = ap (λ f. met_next (mark_on marks (near_in t l)) (met_on marks (path_beyond N f))) (sym (fed-none N l (sym (k.feeders.feeds l k.there) ∙ h))) ∙ by_near
 
   -- fed by a line
   module _ (f : ℕ) (h : feeder_in t l ≡ Some f) where
     fed : (feeder N l ≡ f) × (1 ≤ feeder N l)
-    fed = fed-some N l f (sym (k.tree.feeds l k.there) ∙ h)
+    fed = fed-some N l f (sym (k.feeders.feeds l k.there) ∙ h)
 
     pub fed-there : LineThere N f
     fed-there = record { low = omega (arith, fed); high = omega (arith, fed, feeder-high N k.read k.rules l k.there.low k.there.high) }
 
     pub fed-held : LineHeld f
-    fed-held = record { low = fed-there.low; high = omega (arith, fed-there.high, k.tree.lines) }
+    fed-held = record { low = fed-there.low; high = omega (arith, fed-there.high, (read_fits N k.read).lines) }
 
     fed-met : met_in mets f ≡ met_on marks (route N f)
     fed-met = subst (λ f. LineThere N f → met_in mets f ≡ met_on marks (route N f)) fed.0 k.above fed-there
@@ -104,7 +107,7 @@ module _ {N : Network} {t : Tree} {marks : Marks} {mets : List Met} {l : ℕ} (k
     pub met-fed : met_next (mark_on marks (near_in t l)) (met_next (mark_on marks (far (near_in t f))) (met_in mets f)) ≡ met_on marks (route N l)
     unfolding met_on
     met-fed =
-        (λ i. met_next (mark_on marks (near_in t l)) (met_next (mark_on marks (far (k.tree.nears f fed-there i))) (fed-met i)))
+        (λ i. met_next (mark_on marks (near_in t l)) (met_next (mark_on marks (far (k.feeders.nears f fed-there i))) (fed-met i)))
         ∙ ap (λ es. met_next (mark_on marks (near_in t l)) (met_on marks es)) (beyond-is N f fed-there.low)
         ∙ ap (λ f. met_next (mark_on marks (near_in t l)) (met_on marks (path_beyond N f))) (sym fed.0)
         ∙ by_near
@@ -114,13 +117,21 @@ module _ {N : Network} {t : Tree} {marks : Marks} {mets : List Met} {l : ℕ} (k
 abbrev pub Done : Network → Tree → Marks → List Met → ℕ → Type 0
 Done N t marks mets i = (j : ℕ) → j < i → met_in mets (get_or (lines_in t) j 0) ≡ met_on marks (route N (get_or (lines_in t) j 0))
 
-module _ (N : Network) (t : Tree) (marks : Marks) (mets : List Met) (d : Read N) (r : Rules N) (o : HoldsTree N t) where
+-- the order has a place for each line
+pub order-long : (N : Network) (t : Tree) → HoldsOutwards N t → length N.lines ≤ length (lines_in t)
+order-long N t o = go (dec_le (length N.lines) (length (lines_in t)))
+  where
+    go : Dec (length N.lines ≤ length (lines_in t)) → length N.lines ≤ length (lines_in t)
+    go (yes p) = p
+    go (no p) = absurd (omega (arith, (o.inside (length (lines_in t)) (omega arith)).low, get_or_past (lines_in t) (length (lines_in t)) 0 (omega arith)))
+
+module _ (N : Network) (t : Tree) (marks : Marks) (mets : List Met) (d : Read N) (r : Rules N) (o : HoldsOutwards N t) where
   -- the next line
   pub next_known : (i : ℕ) → i < length N.lines → Done N t marks mets i → Known N t marks mets (get_or (lines_in t) i 0)
   next_known i q h = record {
     read = d;
     rules = r;
-    tree = o;
+    feeders = o.feeders;
     there = o.inside i q;
     above = λ f. let x = o.after i q f.low in subst (λ l. met_in mets l ≡ met_on marks (route N l)) x.2 (h x.0 x.1);
   }
@@ -138,7 +149,7 @@ module _ (N : Network) (t : Tree) (marks : Marks) (mets : List Met) (d : Read N)
 
       go : Dec (get_or (lines_in t) j 0 ≡ l) → met_in (set mets (l - 1) m) (get_or (lines_in t) j 0) ≡ met_on marks (route N (get_or (lines_in t) j 0))
       go (yes p) =
-          ap (met_in (set mets (l - 1) m)) p ∙ get_or-set_same mets (l - 1) m no_met (omega (arith, there.low, there.high, o.lines)) ∙ e ∙ ap (λ l. met_on marks (route N l)) (sym p)
+          ap (met_in (set mets (l - 1) m)) p ∙ get_or-set_same mets (l - 1) m no_met (omega (arith, there.low, there.high, (read_fits N d).lines)) ∙ e ∙ ap (λ l. met_on marks (route N l)) (sym p)
       go (no p) =
           get_or-set_other mets (l - 1) (get_or (lines_in t) j 0 - 1) m no_met (λ z. p (omega (arith, z, there.low, (o.inside j (omega arith)).low)))
           ∙ h j (before (ℕ_discrete j i))

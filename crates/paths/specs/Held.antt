@@ -36,9 +36,17 @@ count_in p l = (met_in p.mets.lines l).count
 abbrev pub path_breakers : Network → ℕ → ℕ
 path_breakers N l = breakers_on N (path_to_hv N (line l))
 
+-- the breaker that trips for each line, and the breakers on its path
+abbrev pub HoldsTrips : Network → Paths → Type 0
+HoldsTrips N p = (l : ℕ) → LineThere N l → trip_in p l ≡ tripped N l
+
+abbrev pub HoldsCounts : Network → Paths → Type 0
+HoldsCounts N p = (l : ℕ) → LineThere N l → count_in p l ≡ path_breakers N l
+
+-- both
 pub record HoldsPaths (N : Network) (p : Paths) : Type 0 where
-  pub trips : (l : ℕ) → LineThere N l → trip_in p l ≡ tripped N l
-  pub counts : (l : ℕ) → LineThere N l → count_in p l ≡ path_breakers N l
+  pub trips : HoldsTrips N p
+  pub counts : HoldsCounts N p
 
 -- the first place on the path of a line, and on that of the station that the line feeds
 abbrev pub first_in : Firsts → ℕ → Option ℕ

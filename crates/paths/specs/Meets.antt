@@ -7,7 +7,7 @@ use Rattle.theory.specs.Radial.{Rules}
 use Rattle.theory.specs.Behind.{far}
 use Rattle.network.specs.There.{LineThere}
 use Rattle.tree.specs.Outwards.{near_end, feeder}
-use Rattle.tree.specs.Held.{HoldsTree}
+use Rattle.tree.specs.Held.{HoldsFeeders}
 use Rattle.tree.specs.declared.Tree.{Tree}
 use Rattle.sets.specs.Sets.{route}
 use Rattle.marks.specs.Held.{mark_on}
@@ -44,7 +44,7 @@ HoldsMets N marks mets = (l : ℕ) → LineThere N l → met_in mets l ≡ met_o
 pub record Known (N : Network) (t : Tree) (marks : Marks) (mets : List Met) (l : ℕ) : Type 0 where
   pub read : Read N
   pub rules : Rules N
-  pub tree : HoldsTree N t
+  pub feeders : HoldsFeeders N t
   pub there : LineThere N l
   pub above : LineThere N (feeder N l) → met_in mets (feeder N l) ≡ met_on marks (route N (feeder N l))
 

@@ -7,7 +7,7 @@ ghost use Rattle.theory.specs.Reading.{Read};
 ghost use Rattle.theory.specs.Radial.{Rules};
 ghost use Rattle.theory.specs.Behind.{far};
 ghost use Rattle.tree.specs.Linked.{LineHeld};
-ghost use Rattle.tree.specs.Held.{near_in, HoldsTree};
+ghost use Rattle.tree.specs.Held.{near_in, HoldsOutwards};
 ghost use Rattle.sets.specs.Sets.{route};
 ghost use Rattle.marks.specs.Held.{mark_on, HoldsPlaces};
 ghost use Rattle.paths.specs.Held.{trip_in, count_in, first_in, first_beyond_in, HoldsPaths, HoldsFirsts};
@@ -93,10 +93,10 @@ impl Mets {
 
     // Follows the path of each line, from the HV stations outwards.
     fn follow(&mut self, net: &Network, tree: &Tree, marks: &Marks)
-        requires { Read net.now × Rules net.now × HoldsTree net.now tree.now }
+        requires { Read net.now × Rules net.now × HoldsOutwards net.now tree.now }
         ensures { HoldsMets net.now marks.now self.new.lines }
     {
-        for &line in tree.lines() {
+        for &line in &tree.lines()[..net.line_count()] {
             self.lines[line - 1] = self.line_met(net, tree, marks, line);
         }
     }
@@ -120,7 +120,7 @@ impl Paths {
 
     // Follows the paths of a network's lines.
     pub fn follow(&mut self, net: &Network, tree: &Tree)
-        requires { Read net.now × Rules net.now × HoldsTree net.now tree.now }
+        requires { Read net.now × Rules net.now × HoldsOutwards net.now tree.now }
         ensures { HoldsPaths net.now self.new }
     {
         let mut breakers = Marks::new();
@@ -128,7 +128,7 @@ impl Paths {
         self.mets.follow(net, tree, &breakers);
     }
 
-    // The breaker that trips for a line; the specification's end of line 0 where none does.
+    // The breaker that trips for a line; an end of line 0 where none does.
     pub fn trip(&self, line: usize) -> End
         requires { LineHeld line }
         ensures { result ≡ trip_in self.now line }
@@ -164,7 +164,7 @@ impl Firsts {
 
     // Follows the paths of a network's lines, by the marks of its places.
     pub fn follow(&mut self, net: &Network, tree: &Tree, places: &Marks)
-        requires { Read net.now × Rules net.now × HoldsTree net.now tree.now
+        requires { Read net.now × Rules net.now × HoldsOutwards net.now tree.now
             × HoldsPlaces net.now places.now }
         ensures { HoldsFirsts net.now self.new }
     {

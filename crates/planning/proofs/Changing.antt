@@ -1,31 +1,27 @@
 -- The network with a set's breakers: what is known of it, and what is the same as without them.
 use Prim.Native.Nat.{ℕ, zero, suc, ◌+◌, ◌≤◌, ◌<◌}
 use mathlib.Core.Path.{◌≡◌, refl, sym, ap, ◌∙◌, subst}
-use mathlib.Core.Bool.{Bool, true, false}
 use mathlib.Core.List.{List, [], ◌∷◌, Sublistᴰ}
 use native.Mathlib.Numerals.{add-one}
 use native.Mathlib.Omega.{arith}
-use lib.Dec.{eqb}
 use lib.ListN.{length, get_or, take, drop}
 use lib.Seq.{take-suc, take_all}
-use Rattle.model.specs.Lists.{keep}
-use Rattle.model.specs.Network.{Network, Station}
-use Rattle.model.specs.Paths.{End, line, station_at, closed_ends}
+use Rattle.model.specs.Network.{Network}
+use Rattle.model.specs.Paths.{End, line}
 use Rattle.model.specs.Outage.{customers_behind, total}
 use Rattle.model.specs.Sets.{place_numbers, place_at, with_breaker, with_breakers, set_total}
-use Rattle.savings.specs.Shape.{Same, closed_ends-same, path_to_hv-same, customers_behind-same}
+use Rattle.savings.specs.Shape.{Same, path_to_hv-same, customers_behind-same}
 use Rattle.savings.specs.Breakers.{with_breakers-same, with_breakers-append}
 use Rattle.theory.specs.Reading.{Read}
 use Rattle.theory.specs.Radial.{Rules}
 use Rattle.theory.specs.Best.{Accepted, member-place, set-valid}
 use Rattle.theory.specs.With.{with_read, with-rules}
-use Rattle.network.specs.There.{StationThere, LineThere, PlaceThere, place_end}
+use Rattle.network.specs.There.{LineThere, PlaceThere, place_end}
 use Rattle.network.specs.Changed.{with_state, breaker-is-state}
 use Rattle.network.specs.Found.{found}
-use Rattle.tree.specs.Linked.{ends_at}
 use Rattle.tree.specs.Outwards.{first_end, near_end, second_line, feeder, fed_by}
 use Rattle.tree.specs.declared.Tree.{Tree}
-use Rattle.tree.specs.Held.{lines_in, HoldsTree}
+use Rattle.tree.specs.Held.{lines_in, HoldsOutwards}
 use Rattle.outage.specs.declared.Behind.{Behind}
 use Rattle.outage.specs.Held.{HoldsCustomers}
 use Rattle.marks.proofs.Marking.{place-fits}
@@ -35,12 +31,6 @@ places_same : (S : List ℕ) (N : Network) → (with_breakers N S).places ≡ N.
 unfolding with_breakers with_breaker
 places_same [] N = refl
 places_same (p ∷ S) N = places_same S (with_breaker N (place_at N p))
-
--- a list keeps the same by tests that say the same
-keep-alike : {A : Type 0} (f g : A → Bool) → ((x : A) → f x ≡ g x) → (xs : List A) → keep f xs ≡ keep g xs
-unfolding keep
-keep-alike f g h [] = refl
-keep-alike f g h (x ∷ xs) = (λ i. elim (h x i) [ true ↦ x ∷ keep f xs | false ↦ keep f xs ]) ∙ ap (λ ys. elim (g x) [ true ↦ x ∷ ys | false ↦ ys ]) (keep-alike f g h xs)
 
 -- a network with the breakers of a set's first i members, and the next member
 module _ (N : Network) (d : Read N) (S : List ℕ) (s : Sublistᴰ S (place_numbers N)) (b : Network) (i : ℕ) (e : b ≡ with_breakers N (take i S)) (h : i < length S) where
@@ -88,24 +78,13 @@ module _ (M N : Network) (s : Same M N) where
   line-in : {l : ℕ} → LineThere M l → LineThere N l
   line-in t = record { low = t.low; high = in_both t.high }
 
-  station-in : {l : ℕ} → StationThere M l → StationThere N l
-  station-in {l} t = record { low = t.low; high = subst (λ (xs : List Station). l ≤ length xs) s.stations t.high }
-
-  ends_at-same : (t : ℕ) → ends_at M t ≡ ends_at N t
-  ends_at-same t = ap (keep (λ e. eqb (station_at M e) t)) (closed_ends-same M N s) ∙ keep-alike (λ e. eqb (station_at M e) t) (λ e. eqb (station_at N e) t) (λ e. ap (λ x. eqb x t) (s.station_of e)) (closed_ends N)
-
   fed_by-same : (l : ℕ) → fed_by M l ≡ fed_by N l
   unfolding fed_by
   fed_by-same l = ap found (feeder-same l)
 
-  tree-same : (t : Tree) → HoldsTree N t → HoldsTree M t
-  tree-same t o = record {
-    stations = subst (λ (xs : List Station). length xs ≤ 512) (sym s.stations) o.stations;
-    lines = omega (arith, o.lines, s.line_count);
-    linked = record { has = λ k h. o.linked.has k (station-in h); ends = λ k h. o.linked.ends k (station-in h) ∙ sym (ends_at-same k) };
-    nears = λ l h. o.nears l (line-in h) ∙ sym (near_end-same l);
-    feeds = λ l h. o.feeds l (line-in h) ∙ sym (fed_by-same l);
-    count = o.count ∙ sym s.line_count;
+  outwards-same : (t : Tree) → HoldsOutwards N t → HoldsOutwards M t
+  outwards-same t o = record {
+    feeders = record { nears = λ l h. o.feeders.nears l (line-in h) ∙ sym (near_end-same l); feeds = λ l h. o.feeders.feeds l (line-in h) ∙ sym (fed_by-same l) };
     listed = λ l h. let x = o.listed l (line-in h) in (x.0, omega (arith, x.1, s.line_count), x.2);
     inside = λ i h. let x = o.inside i (omega (arith, s.line_count)) in record { low = x.low; high = omega (arith, x.high, s.line_count) };
     after = λ i h k. let x = o.after i (omega (arith, s.line_count)) (omega (arith, k, feeder-same (get_or (lines_in t) i 0))) in (x.0, x.1, x.2 ∙ sym (feeder-same (get_or (lines_in t) i 0)));
@@ -119,17 +98,14 @@ module _ (N : Network) (a : Accepted N) (S : List ℕ) (s : Sublistᴰ S (place_
   same : Same b N
   same = subst (λ M. Same M N) (sym e) (with_breakers-same S N (set-valid N a s))
 
-  pub read-still : Read b
-  read-still = subst Read (sym e) (with_read S N a.read)
-
-  pub rules-still : Rules b
-  rules-still = subst Rules (sym e) (with-rules N a.read a.rules S (set-valid N a s))
-
-  pub tree-still : (t : Tree) → HoldsTree N t → HoldsTree b t
-  tree-still = tree-same b N same
-
-  pub customers-still : (x : Behind) → HoldsCustomers N x → HoldsCustomers b x
-  customers-still = customers-same b N same
+  -- what still holds of it, with the tree and the customers behind the lines of the one without them
+  pub still : (t : Tree) (x : Behind) → HoldsOutwards N t → HoldsCustomers N x → Read b × Rules b × HoldsOutwards b t × HoldsCustomers b x
+  still t x o k = (
+    subst Read (sym e) (with_read S N a.read),
+    subst Rules (sym e) (with-rules N a.read a.rules S (set-valid N a s)),
+    outwards-same b N same t o,
+    customers-same b N same x k,
+  )
 
   pub total-still : {t : ℕ} → t ≡ total b → t ≡ set_total N S
   unfolding set_total

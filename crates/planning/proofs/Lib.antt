@@ -1,3 +1,4 @@
 pub mod Searching
 pub mod Changing
 pub mod Planning
+pub mod Based

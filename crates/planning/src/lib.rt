@@ -7,13 +7,12 @@ ghost use mathlib.Core.List.{[], Sublistᴰ};
 ghost use Rattle.network.specs.There.{LineThere};
 ghost use Rattle.network.specs.Changed.{with_state};
 ghost use Rattle.theory.specs.Reading.{Read};
-ghost use Rattle.outage.specs.Held.{HoldsCustomers};
 ghost use Rattle.model.specs.Sets.{place_numbers, with_breakers, set_total};
 ghost use Rattle.model.specs.Walk.{search};
 ghost use Rattle.search.specs.Walking.{found_in};
 ghost use Rattle.starts.specs.Outlook.{HoldsOutlook};
-ghost use Rattle.relations.specs.Related.{HoldsRelations};
-ghost use Rattle.planning.specs.Planned.{plan_found};
+ghost use Rattle.relations.specs.Related.{HoldsRelations, HoldsLater};
+ghost use Rattle.planning.specs.Planned.{HoldsBasis, plan_found};
 
 use amounts::Total;
 use arrayvec::ArrayVec;
@@ -28,6 +27,7 @@ use prospects::Tables;
 use relations::{Relations, Routes};
 use search::{Course, Walk};
 use starts::Outlook;
+use tree::Tree;
 
 // What a search found: the best set's total and its members, the visits, and whether the search is spent.
 #[derive(Drop)]
@@ -38,38 +38,48 @@ pub struct Plan {
     pub spent: bool,
 }
 
+// What a search is based on: an accepted network, how its lines are fed, what the path of each meets, and the customers behind each.
+#[derive(Clone, Copy)]
+pub struct Basis<'a> {
+    pub network: &'a Network,
+    pub tree: &'a Tree,
+    pub paths: &'a Paths,
+    pub behind: &'a Behind,
+    ghost based: { ∥ HoldsBasis network.now tree.now paths.now behind.now ∥₁ },
+}
+
 // How the places of an accepted network stand to each other, and what a breaker on each would do before any is chosen.
-fn prepare(loaded: &Loaded, relations: &mut Relations, start: &mut Outlook)
-    ensures related { HoldsRelations loaded.now.network.now relations.new }
-    ensures start { HoldsOutlook loaded.now.network.now [] 1 start.new }
+fn prepare(basis: &Basis, relations: &mut Relations, start: &mut Outlook)
+    ensures related { HoldsRelations basis.now.network.now relations.new }
+    ensures later { HoldsLater relations.new (length basis.now.network.now.places) }
+    ensures start { HoldsOutlook basis.now.network.now [] 1 start.new }
 {
-    let net = loaded.network;
+    let net = basis.network;
     let mut places = Marks::new();
     places.mark_places(net);
     let mut firsts = Firsts::new();
-    firsts.follow(net, loaded.tree, &places);
+    firsts.follow(net, basis.tree, &places);
     let routes = Routes {
         net,
-        tree: loaded.tree,
+        tree: basis.tree,
         places: &places,
         firsts: &firsts,
     };
     relations.relate(&routes);
-    start.start(&routes, loaded.paths, relations);
+    start.start(&routes, basis.paths, relations);
 }
 
-// The walk over the sets of an accepted network, with the customers behind each line.
-fn best_set(loaded: &Loaded, behind: &Behind, course: &mut Course)
-    requires { HoldsCustomers loaded.now.network.now behind.now }
-    ensures found { found_in loaded.now.network.now course.new.progress ≡ search loaded.now.network.now }
+// The walk over the sets of an accepted network.
+fn best_set(basis: &Basis, course: &mut Course)
+    ensures found { found_in basis.now.network.now course.new.progress ≡ search basis.now.network.now }
     ensures few { length course.new.progress.best.items ≤ 16 }
 {
     let mut relations = Relations::new();
-    prepare(loaded, &mut relations, &mut course.prospects.outlook);
+    prepare(basis, &mut relations, &mut course.prospects.outlook);
     let tables = Tables {
-        net: loaded.network,
+        net: basis.network,
         relations: &relations,
-        behind,
+        behind: basis.behind,
     };
     let savings = tables.savings(&course.prospects.outlook);
     let mut bounds = Bounds::new();
@@ -111,30 +121,28 @@ fn with_breakers(net: &Network, members: &[usize], changed: &mut Network)
 }
 
 // The total of a set: that of the network with its breakers.
-fn total_with(loaded: &Loaded, behind: &Behind, members: &[usize]) -> Total
-    requires customers { HoldsCustomers loaded.now.network.now behind.now }
-    requires places { Sublistᴰ members.now (place_numbers loaded.now.network.now) }
-    ensures { result.0 ≡ set_total loaded.now.network.now members.now }
+fn total_with(basis: &Basis, members: &[usize]) -> Total
+    requires { Sublistᴰ members.now (place_numbers basis.now.network.now) }
+    ensures { result.0 ≡ set_total basis.now.network.now members.now }
 {
     let mut changed = Network::new(Head::default());
-    with_breakers(loaded.network, members, &mut changed);
+    with_breakers(basis.network, members, &mut changed);
     let mut paths = Paths::new();
-    paths.follow(&changed, loaded.tree);
+    paths.follow(&changed, basis.tree);
     let mut impacts = Impacts::new();
-    impacts.fill(&changed, &paths, behind);
+    impacts.fill(&changed, &paths, basis.behind);
     outage::total_of(&changed, &impacts)
 }
 
-// The search of an accepted network, with the customers behind each line.
-pub fn best_plan(loaded: &Loaded, behind: &Behind) -> Plan
-    requires { HoldsCustomers loaded.now.network.now behind.now }
-    ensures found { plan_found result ≡ search loaded.now.network.now }
+// The search of an accepted network.
+pub fn best_plan(basis: &Basis) -> Plan
+    ensures found { plan_found result ≡ search basis.now.network.now }
     ensures few { length result.members.items ≤ 16 }
 {
     let mut course = Course::new();
-    best_set(loaded, behind, &mut course);
+    best_set(basis, &mut course);
     let found = course.progress;
-    let total = total_with(loaded, behind, found.best.as_slice());
+    let total = total_with(basis, found.best.as_slice());
     Plan {
         total,
         members: found.best,
@@ -143,11 +151,17 @@ pub fn best_plan(loaded: &Loaded, behind: &Behind) -> Plan
     }
 }
 
-// The search of an accepted network.
+// The search of a loaded file.
 pub fn search_network(loaded: &Loaded) -> Plan
     ensures found { plan_found result ≡ search loaded.now.network.now }
     ensures few { length result.members.items ≤ 16 }
 {
     let behind = loaded.customers();
-    best_plan(loaded, &behind)
+    let basis = Basis {
+        network: loaded.network,
+        tree: loaded.tree,
+        paths: loaded.paths,
+        behind: &behind,
+    };
+    best_plan(&basis)
 }

@@ -57,7 +57,7 @@ module _ {N : Network} {relations : Relations} {S : List ℕ} {row last : ℕ} {
   places-few = x.chosen.accepted.read.place_count
 
   own : Listed relations.between last (length N.places + 1) ps
-  own = x.chosen.related.later.each last x.without.low x.chosen.high
+  own = x.later.each last x.without.low x.chosen.high
 
   pub row-of : Row ps last 65
   row-of = row-wide (omega (arith, places-few)) own.row

@@ -8,7 +8,7 @@ use Rattle.theory.specs.Reading.{All}
 use Rattle.theory.specs.Best.{Accepted}
 use Rattle.outage.specs.Held.{HoldsCustomers}
 use Rattle.relations.specs.declared.Relations.{Relations}
-use Rattle.relations.specs.Related.{HoldsRelations, later_in}
+use Rattle.relations.specs.Related.{HoldsRelations, HoldsLater, later_in}
 use Rattle.starts.specs.declared.Outlook.{Outlook}
 use Rattle.starts.specs.Outlook.{Values, HoldsOutlook, no_prospect, prospect_of}
 use Rattle.prospects.specs.declared.Tables.{Tables}
@@ -61,9 +61,10 @@ pub record Later (N : Network) (relations : Relations) (outlook : Outlook) (S : 
 abbrev pub LaterIn : Choice → ℕ → Type 0
 LaterIn c place = Later c.tables.net.now c.tables.relations.now c.outlook.now c.members.now c.pending place
 
--- the outlook is that of the set without its last member, and there is a row for what changes with it
+-- the outlook is that of the set without its last member, the related later places are listed, and there is a row for what changes
 pub record Entering (N : Network) (relations : Relations) (S : List ℕ) (row last : ℕ) (old : Prospects) : Type 0 where
   pub chosen : Chosen N relations S last
+  pub later : HoldsLater relations (length N.places)
   pub without : Without S last
   pub holds : HoldsOutlook N without.rest last old.outlook
   pub few : row ≤ 15

@@ -1,7 +1,7 @@
 // The records of a file, one after the other: their form, then the ranges of their numbers.
 #![tactic(auto)]
 
-ghost use Rattle.std.specs.Prelude.{◌≡◌, true, ◌+◌, ◌<◌, ◌^◌, eqb, length, IfOk, OnOk, OnErr, IfSome, MatchOption};
+ghost use Rattle.std.specs.Prelude.{◌≡◌, true, ◌+◌, ◌<◌, ◌^◌, eqb, length, drop, IfOk, OnOk, OnErr, IfSome, MatchOption};
 ghost use Rattle.model.specs.Format.{newline, records_of, fields_of, after_letter};
 ghost use Rattle.model.specs.Network.{value};
 ghost use Rattle.model.specs.Ranges.{all_in_range};
@@ -60,7 +60,8 @@ fn in_ranges(kind: Kind, numbers: &[u64], stations: u64, lines: u64) -> bool
 // The bytes of the record that comes first, where it is closed, without the newline that closes it; and the bytes behind that newline.
 fn first_closed(rest: &[u8]) -> Option<(&[u8], &[u8])>
     ensures bytes { closed_says result ≡ first_closed (records_of rest.now) }
-    ensures behind { IfSome result (λ p. length p.1.now < length rest.now) }
+    ensures behind { IfSome result (λ p. p.1.now ≡ drop (up_to newline rest.now + 1) rest.now) }
+    ensures shorter { IfSome result (λ p. length p.1.now < length rest.now) }
 {
     let end = newline_at(rest)?;
     Some((&rest[..end], &rest[end + 1..]))
@@ -78,7 +79,8 @@ pub fn read_record(
     ensures numbers { record_says result ≡ next_record stations lines number (kind_of kind) (records_of rest.now) }
     ensures width { IfOk result (λ p. length p.0.items ≡ length (kind_of kind).ranges) }
     ensures ranges { IfOk result (λ p. all_in_range stations lines (value p.0.items 0) (kind_of kind).ranges p.0.items ≡ true) }
-    ensures behind { IfOk result (λ p. length p.1.now < length rest.now) }
+    ensures behind { IfOk result (λ p. p.1.now ≡ drop (up_to newline rest.now + 1) rest.now) }
+    ensures shorter { IfOk result (λ p. length p.1.now < length rest.now) }
 {
     let malformed = Refusal::Malformed { record: number };
     let (bytes, behind) = first_closed(rest).ok_or(malformed)?;

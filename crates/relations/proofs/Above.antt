@@ -21,8 +21,9 @@ use Rattle.network.specs.There.{LineThere}
 use Rattle.network.specs.Found.{found}
 use Rattle.tree.specs.Outwards.{near_end, feeder}
 use Rattle.tree.specs.Linked.{LineHeld}
-use Rattle.tree.specs.Held.{near_in, feeder_in, HoldsTree}
+use Rattle.tree.specs.Held.{near_in, feeder_in, HoldsFeeders}
 use Rattle.tree.specs.declared.Tree.{Tree}
+use Rattle.tree.proofs.Fitting.{read_fits}
 use Rattle.sets.specs.Ways.{has, Way, has-onward}
 use Rattle.sets.specs.Onward.{onward, onward-first, way-onward}
 use Rattle.sets.specs.Stops.{first_place}
@@ -92,7 +93,7 @@ module _ (N : Network) (a : Accepted N) where
               ∙ sym (from_is (is_above N) (place_on N s) q g.low)
 
   -- ── the first place on the path onward from a place ──
-  module _ (t : Tree) (f : Firsts) (o : HoldsTree N t) (h : HoldsFirsts N f) (p : ℕ) (i : Among (length N.places) p) where
+  module _ (t : Tree) (f : Firsts) (o : HoldsFeeders N t) (h : HoldsFirsts N f) (p : ℕ) (i : Among (length N.places) p) where
     abbrev e : End
     e = end_at N p
 
@@ -103,7 +104,7 @@ module _ (N : Network) (a : Accepted N) where
     line-there = let x = place-fits N a.read p i.0 i.1 in record { low = x.line.low; high = x.line.high }
 
     pub line-held : LineHeld l
-    line-held = record { low = line-there.low; high = omega (arith, line-there.high, o.lines) }
+    line-held = record { low = line-there.low; high = omega (arith, line-there.high, (read_fits N a.read).lines) }
 
     near-is : near_in t l ≡ near_end N l
     near-is = o.nears l line-there
@@ -144,11 +145,11 @@ module _ (N : Network) (a : Accepted N) where
         feeder-there = record { low = omega (arith, fed); high = omega (arith, fed, feeder-high N a.read a.rules l line-there.low line-there.high) }
 
         pub feeder-held : LineHeld k
-        feeder-held = record { low = feeder-there.low; high = omega (arith, feeder-there.high, o.lines) }
+        feeder-held = record { low = feeder-there.low; high = omega (arith, feeder-there.high, (read_fits N a.read).lines) }
 
         pub above-fed : (places : Marks) → HoldsPlaces N places → first_beyond_in f t places k ≡ found (place_above N p)
         above-fed places m =
-            first-beyond N a.read a.rules t places f o m h k feeder-there
+            first-beyond N a.read a.rules t places f o.nears m h k feeder-there
             ∙ ap (λ es. found (place_on N (first_place (place_ends N) es))) (beyond-is N k feeder-there.low ∙ sym (near-path ∙ ap (path_beyond N) fed.0))
 
   -- ── the relations ──

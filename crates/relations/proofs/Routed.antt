@@ -2,14 +2,14 @@
 use Rattle.std.proofs.Props.{props}
 use mathlib.Core.Logic.{∥∥₁_elim, ∥∥₁_map}
 use Rattle.theory.specs.Props.{Accepted-prop}
-use Rattle.tree.proofs.Full.{held_tree}
+use Rattle.tree.proofs.Full.{held_feeders}
 use Rattle.relations.specs.Related.{HoldsRoutes}
 use Rattle.relations.specs.declared.Routes.{Routes}
 
 pub routed : (r : Routes) → HoldsRoutes r.net.now r.tree.now r.places.now r.firsts.now
 routed r = record {
   accepted = ∥∥₁_elim r.held (Accepted-prop r.net.now) (λ h. h.accepted);
-  tree = held_tree r.net.now r.tree.now (∥∥₁_map r.held (λ h. h.tree));
+  feeders = held_feeders r.net.now r.tree.now (∥∥₁_map r.held (λ h. h.feeders));
   places = ∥∥₁_elim r.held (hlevel props) (λ h. h.places);
   firsts = ∥∥₁_elim r.held (hlevel props) (λ h. h.firsts);
 }

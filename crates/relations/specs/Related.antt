@@ -5,7 +5,7 @@ use Rattle.savings.specs.Breakers.{end_at}
 use Rattle.theory.specs.Best.{Accepted}
 use Rattle.sets.specs.Ways.{has}
 use Rattle.sets.specs.Onward.{onward}
-use Rattle.tree.specs.Held.{HoldsTree}
+use Rattle.tree.specs.Held.{HoldsFeeders}
 use Rattle.tree.specs.declared.Tree.{Tree}
 use Rattle.marks.specs.Held.{HoldsPlaces}
 use Rattle.marks.specs.declared.Marks.{Marks}
@@ -16,10 +16,10 @@ use Rattle.relations.specs.declared.Relation.TheVariants.{Apart, Behind, Above}
 use Rattle.relations.specs.declared.Relations.{Relations}
 use Rattle.relations.specs.Lists.{relation_at, Listed}
 
--- the tree, the places and the first places are those of an accepted network
+-- how each line is fed, the places and the first places are those of an accepted network
 pub record HoldsRoutes (N : Network) (t : Tree) (m : Marks) (f : Firsts) : Type 0 where
   pub accepted : Accepted N
-  pub tree : HoldsTree N t
+  pub feeders : HoldsFeeders N t
   pub places : HoldsPlaces N m
   pub firsts : HoldsFirsts N f
 
@@ -43,14 +43,12 @@ later_in r q = get_or (map (λ row. row.items) r.later.items) (q - 1) []
 abbrev pub row_count : Relations → ℕ
 row_count r = length r.later.items
 
--- for each of `count` places, and for no more, the table lists the later ones of them that it is related to
+-- for each of `count` places, the table lists the later ones of them that it is related to
 pub record HoldsLater (r : Relations) (count : ℕ) : Type 0 where
-  pub rows : row_count r ≡ count
+  pub rows : count ≤ row_count r
   pub each : (q : ℕ) → 1 ≤ q → q ≤ count → Listed r.between q (count + 1) (later_in r q)
 
--- The table has the relations of all places, and for each place those after it that are not apart from it. Row 0, of no place, says
--- apart everywhere.
+-- the table has the relations of all places; row 0, of no place, says apart everywhere
 pub record HoldsRelations (N : Network) (r : Relations) : Type 0 where
   pub none : (p : ℕ) → p ≤ 64 → between_in r 0 p ≡ Apart
   pub each : (q p : ℕ) → 1 ≤ q → q ≤ length N.places → 1 ≤ p → p ≤ length N.places → between_in r q p ≡ relation N q p
-  pub later : HoldsLater r (length N.places)

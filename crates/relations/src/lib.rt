@@ -73,7 +73,7 @@ impl<'a> Routes<'a> {
 
 // How each place stands to each other, and which later places each is related to. Row `q` of `between`, 65 long, has at `p` how place
 // `p` stands to place `q`; row `q - 1` of `later` has the places that place `q` is related to.
-// That they are a network's (`HoldsRelations`) stands in the clauses, since they are filled in where they lie.
+// That they are a network's (`HoldsRelations`, `HoldsLater`) stands in the clauses, since they are filled in where they lie.
 #[derive(Drop)]
 pub struct Relations {
     // in one array: as an array of rows it was tried, and the check has no rule for making a struct with such rows of an enum
@@ -144,6 +144,7 @@ impl Relations {
         requires { count ≤ 64 }
         ensures table { self.new.between ≡ self.old.between }
         ensures lists { HoldsLater self.new count }
+        ensures count { row_count self.new ≡ count }
     {
         self.later.clear();
         for q in 1..count + 1 {
@@ -154,7 +155,8 @@ impl Relations {
 
     // How the places of a network stand to each other.
     pub fn relate(&mut self, routes: &Routes)
-        ensures { HoldsRelations routes.now.net.now self.new }
+        ensures table { HoldsRelations routes.now.net.now self.new }
+        ensures later { HoldsLater self.new (length routes.now.net.now.places) }
     {
         let count = routes.net.place_count();
         self.between = [Relation::Apart; 4225];

@@ -118,10 +118,10 @@ module _ {w : Walk} {at : Current} {from left : ℕ} {old : Course} (x : Extendi
     low = without.0.low
 
     row-of : Row (later_in R last) last 65
-    row-of = row-wide (omega (arith, places-few)) (x.tables.related.later.each last low (omega (arith, last-is, chosen.high))).row
+    row-of = row-wide (omega (arith, places-few)) (x.later.each last low (omega (arith, last-is, chosen.high))).row
 
     row-there : last ≤ row_count R
-    row-there = omega (arith, last-is, chosen.high, x.tables.related.later.rows)
+    row-there = omega (arith, last-is, chosen.high, x.later.rows)
 
   -- what leaving the set asks for
   pub leaving : {pending : Option ℕ} {course : Course} → Keeps w at old S pending course → walking.Leaving w.tables at.last pending course
@@ -171,6 +171,7 @@ module _ {w : Walk} {at : Current} {from left : ℕ} {old : Course} (x : Extendi
           let v = without l in
           record {
             chosen = subst (Chosen N R S) (last-is l) chosen;
+            later = x.later;
             without = v.0;
             holds = rw s.1 v.1;
             few = room;
@@ -331,6 +332,7 @@ module _ {w : Walk} {at : Current} {from left : ℕ} {old : Course} (x : Extendi
         pub extending : Extending w en more (place + 1) (left - 1)
         extending = record {
           tables = x.tables;
+          later = x.later;
           table = x.table;
           standing = subst (λ U. Standing N R en.prospects.outlook U more more.last) (sym en-is) standing-more;
           counted = subst (Counted N) (sym o.progress) vs.counted;

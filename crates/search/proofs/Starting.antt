@@ -53,6 +53,7 @@ module _ {w : Walk} {old : Course} (x : Starting w old) where
       unfolding sum
       extending-none = record {
         tables = x.tables;
+        later = x.later;
         table = x.table;
         standing = rw members-none (record {
           chosen = chosen_none N w.tables.relations.now x.tables.accepted x.tables.related;

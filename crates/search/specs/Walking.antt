@@ -10,7 +10,7 @@ use Rattle.theory.specs.Best.{Accepted}
 use Rattle.bounds.specs.declared.Bounds.{Bounds}
 use Rattle.bounds.specs.Bounds.{places_from, most_saved, HoldsBounds}
 use Rattle.relations.specs.declared.Relations.{Relations}
-use Rattle.relations.specs.Related.{later_in, row_count}
+use Rattle.relations.specs.Related.{HoldsLater, later_in, row_count}
 use Rattle.starts.specs.declared.Outlook.{Outlook}
 use Rattle.starts.specs.Outlook.{HoldsOutlook}
 use Rattle.prospects.specs.declared.Tables.{Tables}
@@ -179,6 +179,7 @@ pub record UndoneIn (t : Tables) (last pending : Option ℕ) (old new : Course) 
 -- the set may get `left` more of the places from `from` on
 pub record Extending (w : Walk) (course : Course) (at : Current) (from left : ℕ) : Type 0 where
   pub tables : HoldsTables w.tables
+  pub later : HoldsLater w.tables.relations.now (length w.tables.net.now.places)
   pub table : HoldsBounds w.tables.net.now w.bounds.now
   pub standing : Standing w.tables.net.now w.tables.relations.now course.prospects.outlook course.members.items at at.last
   pub counted : Counted w.tables.net.now course.progress
@@ -197,5 +198,6 @@ pub record Left (N : Network) (f : Found) (old new : Course) : Type 0 where
 -- before the walk
 pub record Starting (w : Walk) (course : Course) : Type 0 where
   pub tables : HoldsTables w.tables
+  pub later : HoldsLater w.tables.relations.now (length w.tables.net.now.places)
   pub table : HoldsBounds w.tables.net.now w.bounds.now
   pub holds : HoldsOutlook w.tables.net.now [] 1 course.prospects.outlook

@@ -8,7 +8,7 @@ ghost use Rattle.model.specs.Segments.{breaker_ends, segment_table};
 ghost use Rattle.theory.specs.Best.{Accepted};
 ghost use Rattle.network.specs.There.{LineThere};
 ghost use Rattle.tree.specs.Linked.{LineHeld, end_code};
-ghost use Rattle.paths.specs.Held.{trip_in, HoldsPaths};
+ghost use Rattle.paths.specs.Held.{trip_in, HoldsTrips};
 ghost use Rattle.outage.specs.Held.{HoldsCustomers};
 ghost use Rattle.text.specs.Over.{over, Written};
 ghost use Rattle.segments.specs.Entries.{weight_in, HoldsWeights, Summed, entry_of, entries_of};
@@ -37,7 +37,7 @@ struct Weights {
 impl Weights {
     // The weights of a network's lines.
     fn of(net: &Network, paths: &Paths) -> Weights
-        requires { Accepted net.now × HoldsPaths net.now paths.now }
+        requires { Accepted net.now × HoldsTrips net.now paths.now }
         ensures { HoldsWeights net.now result }
     {
         let mut weights = Weights { by_code: [0; 1537] };
@@ -136,7 +136,7 @@ impl Entries<'_> {
 // Writes the segment table of an accepted network at the start of a buffer, from the breaker that trips for each line and the
 // customers behind each line; answers how many entries it has.
 pub fn write_table(net: &Network, paths: &Paths, behind: &Behind, table: &mut [u64]) -> usize
-    requires ready { Accepted net.now × HoldsPaths net.now paths.now × HoldsCustomers net.now behind.now }
+    requires ready { Accepted net.now × HoldsTrips net.now paths.now × HoldsCustomers net.now behind.now }
     requires room { 7680 ≤ length table.old }
     ensures count { result ≡ length (breaker_ends net.now) }
     ensures written { table.new ≡ over (segment_table net.now) table.old }

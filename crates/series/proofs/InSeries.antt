@@ -21,14 +21,13 @@ use Rattle.theory.specs.Radial.{Rules, In, listed-vertex, station-in}
 use Rattle.theory.specs.Above.{breakers-count, series-above}
 use Rattle.theory.specs.Behind.{far, vertices, listed_in}
 use Rattle.network.specs.There.{LineThere}
-use Rattle.tree.specs.Linked.{LineHeld}
-use Rattle.tree.specs.Held.{near_in, HoldsTree}
+use Rattle.tree.specs.Held.{near_in, HoldsNears}
 use Rattle.tree.specs.declared.Tree.{Tree}
 use Rattle.tree.specs.Outwards.{near_end}
 use Rattle.tree.proofs.Near.{hv-or-fed}
 use Rattle.sets.specs.InSeries.{most, most-of, most-less}
 use Rattle.sets.specs.Sets.{route}
-use Rattle.paths.specs.Held.{count_in, HoldsPaths}
+use Rattle.paths.specs.Held.{count_in, HoldsCounts}
 use Rattle.paths.specs.declared.Paths.{Paths}
 use Rattle.paths.specs.Meets.{far_route}
 use Rattle.series.specs.Series.{most_in_series}
@@ -91,17 +90,14 @@ module _ (N : Network) (d : Read N) (r : Rules N) where
       ))
 
 -- ── by the tree and the paths ──
-module _ (N : Network) (t : Tree) (p : Paths) (d : Read N) (r : Rules N) (o : HoldsTree N t) (h : HoldsPaths N p) (l : ℕ) (a : LineThere N l) where
-  pub line-held : LineHeld l
-  line-held = record { low = a.low; high = omega (arith, a.high, o.lines) }
-
+module _ (N : Network) (t : Tree) (p : Paths) (d : Read N) (r : Rules N) (o : HoldsNears N t) (h : HoldsCounts N p) (l : ℕ) (a : LineThere N l) where
   pub count-few : count_in p l ≤ 1536
   unfolding breakers_on
-  count-few = omega (arith, h.counts l a, keep-length (λ e. is_breaker N e) (route N l), route-short N d r l a.low a.high)
+  count-few = omega (arith, h l a, keep-length (λ e. is_breaker N e) (route N l), route-short N d r l a.low a.high)
 
   -- the breakers on the line's path, and the far end if that is one
   counted : breakers_on N (far_route N l) ≡ on (is_breaker N (far (near_in t l))) 1 + count_in p l
-  counted = omega (arith, breakers-next N (far (near_end N l)) (route N l), ap (λ e. on (is_breaker N (far e)) 1) (o.nears l a), h.counts l a)
+  counted = omega (arith, breakers-next N (far (near_end N l)) (route N l), ap (λ e. on (is_breaker N (far e)) 1) (o l a), h l a)
 
   pub counted-far : is_breaker N (far (near_in t l)) ≡ true → count_in p l + 1 ≡ breakers_on N (far_route N l)
   counted-far s = let o : on (is_breaker N (far (near_in t l))) 1 ≡ 1 = ap (λ b. on b 1) s in omega (arith, counted, o)

@@ -12,8 +12,9 @@ use Rattle.theory.specs.Best.{Accepted}
 use Rattle.network.specs.There.{LineThere}
 use Rattle.network.specs.Found.{found}
 use Rattle.tree.specs.Linked.{LineHeld}
-use Rattle.tree.specs.Held.{near_in, HoldsTree}
+use Rattle.tree.specs.Held.{near_in, HoldsNears}
 use Rattle.tree.specs.declared.Tree.{Tree}
+use Rattle.tree.proofs.Fitting.{read_fits}
 use Rattle.sets.specs.Stops.{first_place}
 use Rattle.sets.specs.Apart.{place_ends}
 use Rattle.marks.specs.Held.{place_on, HoldsPlaces}
@@ -37,12 +38,12 @@ module _ (N : Network) (a : Accepted N) (l : ℕ) where
       go true = omega arith
       go false = on-most N (first_place (place_ends N) (far_route N l))
 
-  module _ (t : Tree) (o : HoldsTree N t) (u : LineThere N l) where
+  module _ (t : Tree) (o : HoldsNears N t) (u : LineThere N l) where
     pub own-held : LineHeld l
-    own-held = record { low = u.low; high = omega (arith, u.high, o.lines) }
+    own-held = record { low = u.low; high = omega (arith, u.high, (read_fits N a.read).lines) }
 
     by_state : (c : Bool) → is_open N (far (near_in t l)) ≡ c → far_place N l ≡ elim c as (λ _. ℕ) [ true ↦ 0 | false ↦ place ]
-    by_state c e = ap (λ c. elim c as (λ _. ℕ) [ true ↦ 0 | false ↦ place ]) (ap (λ e. is_open N (far e)) (sym (o.nears l u)) ∙ e)
+    by_state c e = ap (λ c. elim c as (λ _. ℕ) [ true ↦ 0 | false ↦ place ]) (ap (λ e. is_open N (far e)) (sym (o l u)) ∙ e)
 
     pub place-open : is_open N (far (near_in t l)) ≡ true → None ≡ found (far_place N l)
     place-open s = ap found (sym (by_state true s))

@@ -18,7 +18,7 @@ use network::{End, Network, Side};
 use paths::Paths;
 use relations::{Relation, Relations, Routes};
 
-// What a breaker on a place would do: the breaker upstream of it, which is the specification's end of line 0 where there is none, the
+// What a breaker on a place would do: the breaker upstream of it, which is an end of line 0 where there is none, the
 // weight of the lines that would trip it, and the most breakers in series with it.
 #[derive(Clone, Copy, Debug, Default, PartialEq, Eq)]
 pub struct Prospect {

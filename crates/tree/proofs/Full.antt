@@ -14,7 +14,7 @@ use Rattle.model.specs.Network.{Network}
 use Rattle.model.specs.Paths.{End}
 use Rattle.tree.specs.Linked.{code_end, Chain, over, link, Listed}
 use Rattle.tree.specs.Outwards.{feeder}
-use Rattle.tree.specs.Held.{lines_in, HoldsTree}
+use Rattle.tree.specs.Held.{lines_in, HoldsFeeders, HoldsOutwards, HoldsTree}
 use Rattle.tree.specs.declared.Tree.{Tree}
 
 module _ (nexts : List (Option ℕ)) where
@@ -46,10 +46,19 @@ held_among xs l (suc n) h = go (ℕ_discrete (get_or xs n 0) l) (λ e. held_amon
     go (yes e) before = (n, omega arith, e)
     go (no e) before = let x = before e in (x.0, omega (arith, x.1), x.2)
 
+pub held_feeders : (N : Network) (t : Tree) → ∥ HoldsFeeders N t ∥₁ → HoldsFeeders N t
+held_feeders N t h = record { nears = ∥∥₁_elim h (hlevel props) (λ o. o.nears); feeds = ∥∥₁_elim h (hlevel props) (λ o. o.feeds) }
+
+pub held_outwards : (N : Network) (t : Tree) → ∥ HoldsOutwards N t ∥₁ → HoldsOutwards N t
+held_outwards N t h = record {
+  feeders = held_feeders N t (∥∥₁_map h (λ o. o.feeders));
+  listed = λ l a. held_among (lines_in t) l (length N.lines) (∥∥₁_map h (λ o. o.listed l a));
+  inside = ∥∥₁_elim h (hlevel props) (λ o. o.inside);
+  after = λ i a b. held_among (lines_in t) (feeder N (get_or (lines_in t) i 0)) i (∥∥₁_map h (λ o. o.after i a b));
+}
+
 pub held_tree : (N : Network) (t : Tree) → ∥ HoldsTree N t ∥₁ → HoldsTree N t
 held_tree N t h = record {
-  stations = ∥∥₁_elim h (hlevel props) (λ o. o.stations);
-  lines = ∥∥₁_elim h (hlevel props) (λ o. o.lines);
   linked = record {
     has = λ s a. record {
       low = ∥∥₁_elim h (hlevel props) (λ o. (o.linked.has s a).low);
@@ -58,10 +67,5 @@ held_tree N t h = record {
     };
     ends = ∥∥₁_elim h (hlevel props) (λ o. o.linked.ends);
   };
-  nears = ∥∥₁_elim h (hlevel props) (λ o. o.nears);
-  feeds = ∥∥₁_elim h (hlevel props) (λ o. o.feeds);
-  count = ∥∥₁_elim h (hlevel props) (λ o. o.count);
-  listed = λ l a. held_among (lines_in t) l (length N.lines) (∥∥₁_map h (λ o. o.listed l a));
-  inside = ∥∥₁_elim h (hlevel props) (λ o. o.inside);
-  after = λ i a b. held_among (lines_in t) (feeder N (get_or (lines_in t) i 0)) i (∥∥₁_map h (λ o. o.after i a b));
+  outwards = held_outwards N t (∥∥₁_map h (λ o. o.outwards));
 }

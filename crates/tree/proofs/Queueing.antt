@@ -25,7 +25,7 @@ use Rattle.network.specs.There.{LineThere}
 use Rattle.network.specs.Found.{found, found-is}
 use Rattle.tree.specs.Linked.{LineHeld, ends_at}
 use Rattle.tree.specs.Outwards.{near_end}
-use Rattle.tree.specs.Held.{noted_near, HoldsEnds, HoldsTree}
+use Rattle.tree.specs.Held.{noted_near, lines_in, HoldsEnds, HoldsTree}
 use Rattle.tree.specs.Queue.{leaving, Room, Added, Laid, Told, Queue, HVBelow, Reached, Whole}
 use Rattle.tree.specs.Feeding.{FarEnd}
 use Rattle.tree.specs.declared.Supply.{Supply}
@@ -224,21 +224,20 @@ module _ (N : Network) (d : Read N) (r : Rules N) where
             added : Added (leaving (Some l) (ends_at N (station_at N f))) (Some l) y y'
             added = subst (λ es. Added (leaving (Some l) es) (Some l) y y') z a
 
-  pub grown : (t : Tree) → HoldsEnds N t → Whole N t.supply → HoldsTree N t
-  grown t k q = record {
-    stations = (read_fits N d).stations;
-    lines = (read_fits N d).lines;
-    linked = k;
-    nears = λ l i. (q.told l (all l i)).0;
-    feeds = λ l i. (q.told l (all l i)).1;
-    count = full;
-    listed = λ l i. let x = place_of (all l i) in (x.0, omega (arith, x.1, full), x.2);
-    inside = λ j h. let x = q.laid.inside (get_or t.supply.order.items j 0) (at_place t.supply.order.items j (omega (arith, full))) in record { low = x.0; high = x.1 };
-    after = λ j h a. q.laid.after j (omega (arith, full)) a;
-  }
-    where
-      full : length t.supply.order.items ≡ length N.lines
-      full = laid-full N d r q.laid
+  module _ (t : Tree) (q : Whole N t.supply) where
+    pub grown-count : length (lines_in t) ≡ length N.lines
+    grown-count = laid-full N d r q.laid
 
-      all : (l : ℕ) → LineThere N l → Memᴰ l t.supply.order.items
-      all l i = laid-all N d r q.laid l (i.low, i.high)
+    all : (l : ℕ) → LineThere N l → Memᴰ l (lines_in t)
+    all l i = laid-all N d r q.laid l (i.low, i.high)
+
+    pub grown : HoldsEnds N t → HoldsTree N t
+    grown k = record {
+      linked = k;
+      outwards = record {
+        feeders = record { nears = λ l i. (q.told l (all l i)).0; feeds = λ l i. (q.told l (all l i)).1 };
+        listed = λ l i. let x = place_of (all l i) in (x.0, omega (arith, x.1, grown-count), x.2);
+        inside = λ j h. let x = q.laid.inside (get_or (lines_in t) j 0) (at_place (lines_in t) j (omega (arith, grown-count))) in record { low = x.0; high = x.1 };
+        after = λ j h a. q.laid.after j (omega (arith, grown-count)) a;
+      };
+    }

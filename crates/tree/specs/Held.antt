@@ -60,16 +60,25 @@ feeder_in t l = noted_feeder t.supply.lines l
 abbrev pub lines_in : Tree → List ℕ
 lines_in t = t.supply.order.items
 
-pub record HoldsTree (N : Network) (t : Tree) : Type 0 where
-  pub stations : length N.stations ≤ 512
-  pub lines : length N.lines ≤ 768
-  pub linked : HoldsEnds N t
-  -- each line's near end, and the line that feeds it
-  pub nears : (l : ℕ) → LineThere N l → near_in t l ≡ near_end N l
+-- it has the near end of each line of a network
+abbrev pub HoldsNears : Network → Tree → Type 0
+HoldsNears N t = (l : ℕ) → LineThere N l → near_in t l ≡ near_end N l
+
+-- and the line that feeds it
+pub record HoldsFeeders (N : Network) (t : Tree) : Type 0 where
+  pub nears : HoldsNears N t
   pub feeds : (l : ℕ) → LineThere N l → feeder_in t l ≡ fed_by N l
-  -- every line stands in the order once, and nothing else
-  pub count : length (lines_in t) ≡ length N.lines
+
+-- and the lines from the HV stations outwards, before any others
+pub record HoldsOutwards (N : Network) (t : Tree) : Type 0 where
+  pub feeders : HoldsFeeders N t
+  -- every line stands in the order, and nothing else
   pub listed : (l : ℕ) → LineThere N l → (i : ℕ) × (i < length N.lines) × (get_or (lines_in t) i 0 ≡ l)
   pub inside : (i : ℕ) → i < length N.lines → LineThere N (get_or (lines_in t) i 0)
   -- the line that feeds a line stands before it
   pub after : (i : ℕ) → i < length N.lines → 1 ≤ feeder N (get_or (lines_in t) i 0) → (j : ℕ) × (j < i) × (get_or (lines_in t) j 0 ≡ feeder N (get_or (lines_in t) i 0))
+
+-- it is the tree of a network
+pub record HoldsTree (N : Network) (t : Tree) : Type 0 where
+  pub linked : HoldsEnds N t
+  pub outwards : HoldsOutwards N t

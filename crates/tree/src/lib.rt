@@ -290,7 +290,8 @@ impl Tree {
     // Makes it the tree of a network.
     pub fn grow(&mut self, net: &Network)
         requires { Read net.now × Rules net.now }
-        ensures { HoldsTree net.now self.new }
+        ensures tree { HoldsTree net.now self.new }
+        ensures count { length (lines_in self.new) ≡ length net.now.lines }
     {
         self.link(net);
         self.supply.spread(net, &self.lists);

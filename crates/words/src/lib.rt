@@ -1,6 +1,8 @@
 // Bytes of a file in words, and a lent buffer that words are written into.
 #![tactic(auto)]
 
+ghost use Rattle.std.specs.Prelude.{◌≡◌, ◌++◌, length, take, drop, min};
+
 use std::fmt;
 
 // A byte of a file as a reader sees it: a printable character as it is, any other as `\x` and two hexadecimal digits.
@@ -47,6 +49,16 @@ impl fmt::Display for Quoted<'_> {
     }
 }
 
+// Copies as many bytes as both have, and returns how many.
+fn copy_front(from: &[u8], to: &mut [u8]) -> usize
+    ensures count { result ≡ min (length from.now) (length to.old) }
+    ensures copied { to.new ≡ take result from.now ++ drop result to.old }
+{
+    let n = from.len().min(to.len());
+    to[..n].copy_from_slice(&from[..n]);
+    n
+}
+
 // A lent buffer that texts are written into, one behind the other. What does not fit is left out. A `Cursor` would count on from a start
 // beyond the buffer as well, but not give the bytes up to there as a part of the buffer.
 #[derive(Drop)]
@@ -58,30 +70,42 @@ pub struct Lent<'a> {
 
 impl<'a> Lent<'a> {
     // A buffer whose texts begin at a position.
-    pub fn starting_at(buffer: &'a mut [u8], at: usize) -> Self {
+    pub fn starting_at(buffer: &'a mut [u8], at: usize) -> Self
+        ensures { (result.buffer.now ≡ buffer.old) × (result.taken ≡ at) }
+    {
         Lent { buffer, taken: at }
     }
 
     // A buffer whose texts begin at its start.
-    pub fn new(buffer: &'a mut [u8]) -> Self {
+    pub fn new(buffer: &'a mut [u8]) -> Self
+        ensures { (result.buffer.now ≡ buffer.old) × (result.taken ≡ 0) }
+    {
         Self::starting_at(buffer, 0)
     }
 
     // The bytes of the buffer up to the end of its texts.
-    pub fn as_bytes(&self) -> &[u8] {
+    pub fn as_bytes(&self) -> &[u8]
+        ensures { result.now ≡ take self.now.taken self.now.buffer.now }
+    {
         let n = self.taken.min(self.buffer.len());
         &self.buffer[..n]
+    }
+
+    // Puts bytes behind the texts, whether they are text or not.
+    pub fn put_bytes(&mut self, bytes: &[u8])
+        ensures bytes { take self.new.taken self.new.buffer.now
+            ≡ take (length self.old.buffer.now) (take self.old.taken self.old.buffer.now ++ bytes.now) }
+        ensures room { length self.new.buffer.now ≡ length self.old.buffer.now }
+    {
+        let start = self.taken.min(self.buffer.len());
+        let n = copy_front(bytes, &mut self.buffer[start..]);
+        self.taken += n;
     }
 }
 
 impl fmt::Write for Lent<'_> {
     fn write_str(&mut self, text: &str) -> fmt::Result {
-        for &byte in text.as_bytes() {
-            if self.taken < self.buffer.len() {
-                self.buffer[self.taken] = byte;
-                self.taken += 1;
-            }
-        }
+        self.put_bytes(text.as_bytes());
         Ok(())
     }
 }

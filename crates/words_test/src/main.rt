@@ -6,7 +6,7 @@ use network::Network;
 use record_words::explain;
 use std::fmt::Write;
 use std::io;
-use words::Lent;
+use words::{Lent, Name};
 
 // A refusal of a file and why it was refused.
 fn show(rt: &impl Print, file: &[u8], refusal: Refusal) -> io::Result<()> {
@@ -68,6 +68,19 @@ fn show_strange(rt: &impl Print) -> io::Result<()> {
     show_kept(rt, file, absent, &mut [], 0)
 }
 
+// Bytes as a name.
+fn show_name(rt: &impl Print, bytes: &[u8]) -> io::Result<()> {
+    println!(rt; "{}", Name(bytes))
+}
+
+// What a buffer keeps of bytes that are no text, and of which the last does not fit.
+fn show_bytes(rt: &impl Print) -> io::Result<()> {
+    let mut buffer = [b'_'; 4];
+    let mut lent = Lent::starting_at(&mut buffer, 1);
+    lent.put_bytes(&[b'a', 0xff, 0, b'b']);
+    show_name(rt, lent.as_bytes())
+}
+
 // The refusal of each file of the input. A function of all test programs would take a closure and stand
 // in a crate of its own: that is no plainer.
 fn show_files(rt: &impl Print, input: &[u8]) -> io::Result<()> {
@@ -84,5 +97,6 @@ fn main(rt: HostRuntime) -> io::Result<()> {
     let mut input = [0; 100000];
     let n = input::read(&mut rt.stdin(), &mut input)?;
     show_files(&rt, &input[..n])?;
-    show_strange(&rt)
+    show_strange(&rt)?;
+    show_bytes(&rt)
 }

@@ -6,7 +6,7 @@ total_of-total-requires c = ((is_loaded c.args.loaded.now).accepted.read, c.impa
 
 pub write_report-requires : goal.write_report-requires
 write_report-requires c =
-    let w = c.best_plan-plan.ensures in (
+    let w = c.search_network-plan.ensures in (
       record {
         planned = record { accepted = (is_loaded c.args.loaded.now).accepted; few = w.few; found = w.found };
         holds = c.impacts-impacts.ensures;

@@ -2,11 +2,12 @@ use Prim.Native.Nat.{◌+◌}
 use mathlib.Core.Path.{sym, ◌∙◌, ap}
 use native.Mathlib.Omega.{arith}
 use Rattle.model.specs.Paths.{End, is_breaker}
-use Rattle.series.proofs.InSeries.{line-held, count-few, counted-far, counted-line}
+use Rattle.tree.proofs.Fitting.{line_held}
+use Rattle.series.proofs.InSeries.{count-few, counted-far, counted-line}
 use Rattle.series.proofs.count_beyond.Goals as goal
 
 pub far-requires : goal.far-requires
-far-requires c = line-held c.args.net.now c.args.tree.now c.args.paths.now c.requires.0 c.requires.1 c.requires.2 c.requires.3 c.args.line c.requires.4
+far-requires c = line_held c.args.net.now c.requires.0 c.requires.4
 
 pub is_breaker-requires : goal.is_breaker-requires
 is_breaker-requires c =

@@ -1,7 +1,7 @@
 use mathlib.Core.Path.{◌∙◌}
 use native.Mathlib.Omega.{arith}
 use Rattle.network.specs.There.{LineThere}
-use Rattle.tree.proofs.Fitting.{line_held, read_fits}
+use Rattle.tree.proofs.Fitting.{line_held}
 use Rattle.outage.proofs.Breakers.{trip-there, trip-impact, before-more}
 use Rattle.outage.proofs.Impacts.fill.Goals as goal
 
@@ -19,7 +19,7 @@ loop-line-preserved c =
       h.invariant.0,
       omega arith,
       omega arith,
-      before-more _ h.self h.line c.customers.result (omega arith) (omega (arith, (read_fits _ d).lines, h.invariant.0))
+      before-more _ h.self c.set.new.self h.line c.customers.result c.set.ensures.line c.set.ensures.others
           (c.customers.ensures ∙ trip-impact _ d c.requires.1 h.line i c.args.paths.now c.requires.2 c.trip_line.result c.trip_line.ensures c.args.behind.now c.requires.3) h.invariant.3,
     )
 

@@ -18,3 +18,6 @@ returns-clause-lists c =
     let i = c.loop-q.invariant in
     let all : c.loop-q.q ≡ c.args.count + 1 = omega (arith, c.loop-q-test.false, c.loop-q.auto.q-end) in
     record { rows = omega (arith, i.0, all); each = λ q a b. i.2 q a (omega (arith, all)) }
+
+pub returns-clause-count : goal.returns-clause-count
+returns-clause-count c = omega (arith, c.loop-q.invariant.0, c.loop-q-test.false, c.loop-q.auto.q-end)

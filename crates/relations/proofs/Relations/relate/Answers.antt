@@ -31,8 +31,8 @@ loop-place-preserved c =
       related-next (length N.places) (is_above N) (place_above N) (λ p. length (onward N (end_at N p))) (climb-places N (routed c.args.routes.now).accepted) h.place i h.self.between c.climb.new.self.between h.invariant.1 e.noted,
     )
 
-pub returns : goal.returns
-returns c =
+pub returns-clause-table : goal.returns-clause-table
+returns-clause-table c =
     let N = c.args.routes.now.net.now in
     let y = (routed c.args.routes.now).accepted in
     let h = c.loop-place in
@@ -42,5 +42,7 @@ returns c =
     record {
       none = λ p b. same 0 p ∙ h.invariant.0 p b;
       each = relations-all N y l.new.self (λ q p i j. same q p ∙ related-all (length N.places) (is_above N) (place_above N) (λ p. length (onward N (end_at N p))) (climb-places N y) h.place all h.self.between h.invariant.1 q p i j);
-      later = subst (HoldsLater l.new.self) c.place_count-count.ensures.count l.ensures.lists;
     }
+
+pub returns-clause-later : goal.returns-clause-later
+returns-clause-later c = subst (HoldsLater c.list_later.new.self) c.place_count-count.ensures.count c.list_later.ensures.lists

@@ -24,7 +24,7 @@ overflow_add-weights c =
     let N = c.args.net.now in
     let l = c.loop-line.line in
     let i : LineThere N l = record { low = omega arith; high = omega (arith, c.loop-line.invariant.0) } in
-    let k = code-is N l c.trip_code-code.result (trip_in c.args.paths.now l) c.trip_code-code.ensures.value (c.requires.1.trips l i) in
+    let k = code-is N l c.trip_code-code.result (trip_in c.args.paths.now l) c.trip_code-code.ensures.value (c.requires.1 l i) in
     omega (arith, noted-fits N c.requires.0.read c.loop-line.weights.by_code l c.trip_code-code.result i.high k c.loop-line.invariant.4, c.weight.ensures)
 
 pub loop-line-preserved : goal.loop-line-preserved
@@ -32,7 +32,7 @@ loop-line-preserved c =
     let N = c.args.net.now in
     let l = c.loop-line.line in
     let i : LineThere N l = record { low = omega arith; high = omega (arith, c.loop-line.invariant.0) } in
-    let k = code-is N l c.trip_code-code.result (trip_in c.args.paths.now l) c.trip_code-code.ensures.value (c.requires.1.trips l i) in
+    let k = code-is N l c.trip_code-code.result (trip_in c.args.paths.now l) c.trip_code-code.ensures.value (c.requires.1 l i) in
     (c.loop-line.invariant.0, omega arith, omega arith, length-set _ _ _ ∙ c.loop-line.invariant.3, noted_more N c.loop-line.weights.by_code l c.trip_code-code.result c.weight.result i.high (omega (arith, c.trip_code-code.ensures.few, c.loop-line.invariant.3)) k c.weight.ensures c.loop-line.invariant.4)
 
 pub returns : goal.returns
