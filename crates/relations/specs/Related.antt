@@ -5,7 +5,7 @@ use Rattle.savings.specs.Breakers.{end_at}
 use Rattle.theory.specs.Best.{Accepted}
 use Rattle.sets.specs.Ways.{has}
 use Rattle.sets.specs.Onward.{onward}
-use Rattle.tree.specs.Held.{HoldsFeeders}
+use Rattle.tree.specs.Held.{HoldsNears}
 use Rattle.tree.specs.declared.Tree.{Tree}
 use Rattle.marks.specs.Held.{HoldsPlaces}
 use Rattle.marks.specs.declared.Marks.{Marks}
@@ -16,10 +16,10 @@ use Rattle.relations.specs.declared.Relation.TheVariants.{Apart, Behind, Above}
 use Rattle.relations.specs.declared.Relations.{Relations}
 use Rattle.relations.specs.Lists.{relation_at, Listed}
 
--- how each line is fed, the places and the first places are those of an accepted network
+-- the near ends, the places and the first places are those of an accepted network
 pub record HoldsRoutes (N : Network) (t : Tree) (m : Marks) (f : Firsts) : Type 0 where
   pub accepted : Accepted N
-  pub feeders : HoldsFeeders N t
+  pub nears : HoldsNears N t
   pub places : HoldsPlaces N m
   pub firsts : HoldsFirsts N f
 

@@ -1,12 +1,12 @@
 // How the places stand to each other, and lists of the later places that each place is related to.
 #![tactic(auto)]
 
-ghost use Rattle.std.specs.Prelude.{ℕ, ◌≡◌, ◌+◌, ◌≤◌, not, length};
+ghost use Rattle.std.specs.Prelude.{ℕ, ◌≡◌, ◌+◌, ◌*◌, ◌≤◌, not, length, set};
 ghost use Rattle.model.specs.Paths.{same_end};
 ghost use Rattle.network.specs.There.{PlaceThere};
 ghost use Rattle.network.specs.Found.{found};
 ghost use Rattle.tree.specs.Linked.{LineHeld};
-ghost use Rattle.tree.specs.Held.{near_in};
+ghost use Rattle.tree.specs.Held.{near_in, HoldsFeeders};
 ghost use Rattle.relations.specs.declared.Relation.TheVariants.{Apart};
 ghost use Rattle.relations.specs.Related.{HoldsRoutes, HoldsLater, HoldsRelations, between_in, later_in, row_count};
 ghost use Rattle.relations.specs.Lists.{is_related, Listed};
@@ -59,7 +59,8 @@ impl<'a> Routes<'a> {
 
     // The next place above a place, the first that the path onward from it meets.
     fn above(&self, place: usize) -> Option<usize>
-        requires { PlaceThere self.now.net.now place }
+        requires place { PlaceThere self.now.net.now place }
+        requires feeders { HoldsFeeders self.now.net.now self.now.tree.now }
         ensures { result ≡ found (place_above self.now.net.now place) }
     {
         let end = self.net.place_end(place);
@@ -101,6 +102,16 @@ impl Relations {
         self.between[q * 65 + p]
     }
 
+    // Notes how place `p` stands to place `q`, in the table alone.
+    pub fn set(&mut self, q: usize, p: usize, relation: Relation)
+        requires { (q ≤ 64) × (p ≤ 64) }
+        ensures table { self.new.between ≡ set self.old.between (q * 65 + p) relation }
+        ensures later { self.new.later ≡ self.old.later }
+    {
+        let at = q * 65 + p;
+        self.between[at] = relation;
+    }
+
     // The places after place `q` that it is related to, in rising order.
     pub fn later(&self, q: usize) -> &[usize]
         requires { (1 ≤ q) × (q ≤ row_count self.now) }
@@ -111,7 +122,8 @@ impl Relations {
 
     // The relations between a place and those above it.
     fn climb(&mut self, routes: &Routes, place: usize)
-        requires { PlaceThere routes.now.net.now place }
+        requires place { PlaceThere routes.now.net.now place }
+        requires feeders { HoldsFeeders routes.now.net.now routes.now.tree.now }
         ensures noted { Noted (length routes.now.net.now.places) (λ q. is_above routes.now.net.now q place)
             place self.old.between self.new.between }
         ensures row_zero { Kept self.old.between self.new.between }
@@ -119,8 +131,8 @@ impl Relations {
         // not by `successors`, whose end the types don't know: that a path ends is the proof of this loop
         let mut next = routes.above(place);
         while let Some(above) = next {
-            self.between[above * 65 + place] = Relation::Behind;
-            self.between[place * 65 + above] = Relation::Above;
+            self.set(above, place, Relation::Behind);
+            self.set(place, above, Relation::Above);
             next = routes.above(above);
         }
     }
@@ -155,6 +167,7 @@ impl Relations {
 
     // How the places of a network stand to each other.
     pub fn relate(&mut self, routes: &Routes)
+        requires { HoldsFeeders routes.now.net.now routes.now.tree.now }
         ensures table { HoldsRelations routes.now.net.now self.new }
         ensures later { HoldsLater self.new (length routes.now.net.now.places) }
     {

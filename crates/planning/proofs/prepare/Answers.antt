@@ -10,7 +10,10 @@ follow-requires c = let h = based c.args.basis.now in (h.accepted.read, h.accept
 pub invariant_of-routes : goal.invariant_of-routes
 invariant_of-routes c =
     let h = based c.args.basis.now in
-    record { held = ∣ record { accepted = h.accepted; feeders = h.outwards.feeders; places = c.mark_places.ensures; firsts = c.follow.ensures } ∣₁ }
+    record { held = ∣ record { accepted = h.accepted; nears = h.outwards.feeders.nears; places = c.mark_places.ensures; firsts = c.follow.ensures } ∣₁ }
+
+pub relate-requires : goal.relate-requires
+relate-requires c = (based c.args.basis.now).outwards.feeders
 
 pub start-requires : goal.start-requires
 start-requires c = ((based c.args.basis.now).paths, c.relate.ensures.table)

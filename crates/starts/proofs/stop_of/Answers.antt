@@ -27,7 +27,7 @@ trip_together-requires c =
     let r = c.args.routes.now in
     let h = routed r in
     let (n, u) = c.requires in (
-      own-held r.net.now h.accepted c.args.line r.tree.now h.feeders.nears u,
+      own-held r.net.now h.accepted c.args.line r.tree.now h.nears u,
       subst LineHeld (sym c.place_line.ensures)
           (line_held r.net.now h.accepted c.in_ok-place.place (place-there r.net.now h.accepted c.args.paths.now r.firsts.now n h.firsts c.args.line u c.in_ok-place.place (sym c.first.ensures ∙ c.in_ok-place.was))),
     )

@@ -30,7 +30,7 @@ raise-requires c =
 pub count_beyond-count-requires : goal.count_beyond-count-requires
 count_beyond-count-requires c =
     let h = routed c.args.routes.now in
-    (h.accepted.read, h.accepted.rules, h.feeders.nears, c.requires.counts, record { low = omega arith; high = omega arith })
+    (h.accepted.read, h.accepted.rules, h.nears, c.requires.counts, record { low = omega arith; high = omega arith })
 
 pub raise-requires-in-loop-line : goal.raise-requires-in-loop-line
 raise-requires-in-loop-line c =
