@@ -1,7 +1,7 @@
 // Bytes of a file in words, and a lent buffer that words are written into.
 #![tactic(auto)]
 
-ghost use Rattle.std.specs.Prelude.{◌≡◌, ◌++◌, length, take, drop, min};
+ghost use Rattle.std.specs.Prelude.{◌≡◌, ◌++◌, length, take, drop, min, IsOk};
 
 use std::fmt;
 
@@ -104,7 +104,13 @@ impl<'a> Lent<'a> {
 }
 
 impl fmt::Write for Lent<'_> {
-    fn write_str(&mut self, text: &str) -> fmt::Result {
+    // Puts a text behind the others. It never fails: what does not fit is left out.
+    fn write_str(&mut self, text: &str) -> fmt::Result
+        ensures ok { IsOk result }
+        ensures bytes { take self.new.taken self.new.buffer.now
+            ≡ take (length self.old.buffer.now) (take self.old.taken self.old.buffer.now ++ text.now) }
+        ensures room { length self.new.buffer.now ≡ length self.old.buffer.now }
+    {
         self.put_bytes(text.as_bytes());
         Ok(())
     }
