@@ -10,6 +10,7 @@ ghost use Rattle.model.specs.Segments.{breaker_ends, segment_table, BreakerByBre
 
 use loading::{Loaded, Room};
 use model::{Outcome, Refusal, Totals};
+use planning::Basis;
 
 // Check: whether the file is accepted.
 pub fn check(file: &[u8]) -> Result<(), Refusal>
@@ -65,9 +66,16 @@ fn report_network(loaded: &Loaded, text: &mut [u8]) -> usize
         × (text.new ≡ report_text loaded.now.network.now
         ++ drop (length (report_text loaded.now.network.now)) text.old) }
 {
+    let behind = loaded.customers();
+    let basis = Basis {
+        network: loaded.network,
+        tree: loaded.tree,
+        paths: loaded.paths,
+        behind: &behind,
+    };
     let impacts = loaded.impacts();
     let total = outage::total_of(loaded.network, &impacts);
-    let plan = planning::search_network(loaded);
+    let plan = planning::best_plan(&basis);
     report::write_report(loaded.network, &impacts, total, &plan, text)
 }
 
