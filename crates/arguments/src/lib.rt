@@ -7,6 +7,7 @@ ghost use Rattle.model.specs.declared.Word.{Word};
 ghost use Rattle.model.specs.declared.Misuse.{Misuse};
 ghost use Rattle.model.specs.Format.{number_of};
 ghost use Rattle.arguments.specs.Numbers.{number_or};
+ghost use Rattle.arguments.specs.Names.{word_at};
 ghost use Rattle.model.specs.Commands.{word_of, alone, with_file, impact_asked, ceiling_asked, asked, requested};
 
 use model::{Command, Misuse, Request, Word};
@@ -152,4 +153,15 @@ pub fn request(count: usize, first: &[u8], second: &[u8], third: &[u8]) -> Resul
         return Err(Misuse::TooMany);
     }
     asked_by(word_of(first), count - 1, second, third)
+}
+
+// The word that names the file: the first, the second or the third.
+pub fn word_at<'a>(word: usize, first: &'a [u8], second: &'a [u8], third: &'a [u8]) -> &'a [u8]
+    ensures { result.now ≡ word_at word first.now second.now third.now }
+{
+    match word {
+        1 => first,
+        2 => second,
+        _ => third,
+    }
 }

@@ -2,13 +2,11 @@
 // number or a word is refused, or what failed.
 #![tactic(auto)]
 
-ghost use Rattle.std.specs.Prelude.{◌≡◌, ◌≤◌, length, take};
-ghost use Rattle.model.specs.Calls.{printed};
-ghost use Rattle.model.specs.Commands.{prints};
+ghost use Rattle.std.specs.Prelude.{◌≤◌};
 
-use commands::Said;
 use explanations::Explanation;
 use model::{Command, Refusal, Request};
+use printing::Failure;
 use std::env::{Env, FillError};
 use std::fmt::{Display, Write};
 use std::fs::File;
@@ -65,57 +63,26 @@ fn explain(rt: &HostRuntime, command: Command, file: &[u8], refusal: Refusal) {
     let _ = write_text(&rt.stderr(), &explanation);
 }
 
-// Writes what is printed for a file without a command at the start of a buffer: its report, or the line of its refusal. It stands beside
-// `commands::answer`, since its clause is the specification's own word for the program, `printed`.
-fn put_answer(file: &[u8], out: &mut [u8]) -> Said
-    requires { 32768 ≤ length out.old }
-    ensures { (take result.bytes out.new ≡ printed file.now) × (result.bytes ≤ length out.new) }
-{
-    match engine::report(file, out) {
-        Ok(bytes) => Said {
-            bytes,
-            refusal: None,
-        },
-        Err(refusal) => {
-            let bytes = text::put_line(out, b'X', &[refusal.number(), refusal.record()]);
-            Said {
-                bytes,
-                refusal: Some(refusal),
-            }
-        }
+// Prints what ceiling answers, which reads no file, and says why if it is a refusal.
+fn run_alone(rt: &HostRuntime, command: Command) {
+    match printing::print(command, &[], &mut rt.stdout()) {
+        Ok(None) => {}
+        Ok(Some(refusal)) => explain(rt, command, &[], refusal),
+        Err(e) => fail(rt, &"standard output", e),
     }
 }
 
-// Writes what a command prints for a file at the start of a buffer.
-fn put_command(command: Command, file: &[u8], out: &mut [u8]) -> Said
-    requires { 164375 ≤ length out.old }
-    ensures { (take result.bytes out.new ≡ prints command file.now) × (result.bytes ≤ length out.new) }
-{
-    match command {
-        Command::Report => put_answer(file, out),
-        _ => commands::answer(command, file, out),
-    }
-}
-
-// Prints what a command answers for a file, and says why if it is a refusal.
-fn print_answer(rt: &HostRuntime, command: Command, file: &[u8]) {
-    let mut out = [0; commands::ROOM];
-    let said = put_command(command, file, &mut out);
-    if let Err(e) = rt.write_all(&out[..said.bytes]) {
-        fail(rt, &"standard output", e);
-        return;
-    }
-    if let Some(refusal) = said.refusal {
-        explain(rt, command, file, refusal);
-    }
-}
-
-// Reads a file to its end and prints what a command answers for it, or says that it cannot be read.
+// Reads a file to its end and prints what a command answers for it. Says why it is refused, or that it cannot be read or printed.
 fn run<F: Read>(rt: &HostRuntime, command: Command, from: &mut F, name: &impl Display) {
     let mut file = [0; input::ROOM];
-    match input::read(from, &mut file) {
-        Err(e) => fail(rt, name, e),
-        Ok(n) => print_answer(rt, command, &file[..n]),
+    match printing::run(command, from, &mut file, &mut rt.stdout()) {
+        Ok(printed) => {
+            if let Some(refusal) = printed.refusal {
+                explain(rt, command, &file[..printed.bytes], refusal);
+            }
+        }
+        Err(Failure::Read(e)) => fail(rt, name, e),
+        Err(Failure::Write(e)) => fail(rt, &"standard output", e),
     }
 }
 
@@ -164,11 +131,12 @@ fn run_file(rt: &HostRuntime, command: Command, path: &[u8], word: usize) {
 fn carry_out(rt: &HostRuntime, command: Command, file: Option<usize>, words: [&[u8]; 3]) {
     let [first, second, third] = words;
     match (command, file) {
-        (Command::Ceiling { .. }, _) => print_answer(rt, command, &[]),
+        (Command::Ceiling { .. }, _) => run_alone(rt, command),
         (_, None) => run_input(rt, command),
-        (_, Some(1)) => run_file(rt, command, first, 1),
-        (_, Some(2)) => run_file(rt, command, second, 2),
-        (_, Some(n)) => run_file(rt, command, third, n),
+        (_, Some(word)) => {
+            let path = arguments::word_at(word, first, second, third);
+            run_file(rt, command, path, word);
+        }
     }
 }
 

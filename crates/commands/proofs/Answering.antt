@@ -1,5 +1,5 @@
 -- From what a call answers to the text that its command leaves.
-use Rattle.std.specs.Prelude.{◌≡◌, ℕ, ◌*◌, ◌≤◌, List, [], ◌∷◌, length, take, drop, Result, Ok, Err}
+use Rattle.std.specs.Prelude.{◌≡◌, ℕ, ◌*◌, ◌≤◌, List, [], ◌∷◌, length, take, drop, Option, Result, Ok, Err}
 use Rattle.std.proofs.Common.{sym, ap, ◌∙◌, subst, arith, length-append}
 use Rattle.std.proofs.lemmas.List.{take_at}
 use Rattle.model.specs.Answer.{Answer, given, refused, refusal_number, refusal_record, ◌>>=◌, says}
@@ -16,6 +16,8 @@ use Rattle.theory.specs.Segments.{table-length}
 use Rattle.engine.proofs.Lending.{lent-enough}
 use Rattle.text.specs.Over.{Written}
 use Rattle.plans.specs.Left.{text_in, Fits, Left}
+use Rattle.commands.specs.Told.{Told}
+use Rattle.std.specs.Result.{result_err}
 use Rattle.plans.proofs.Planning.{written-left}
 use Rattle.segment_rows.specs.Rows.{table_text}
 use Rattle.segment_rows.proofs.Entries.{table-rows}
@@ -31,6 +33,11 @@ refusal-left f r out e = (ap (λ a. a >>= λ x. given (f x)) e, tt)
 -- and so is the text of what is given
 given-left : {A : Type 0} {a : Answer A} (f : A → List ℕ) (x : A) (old new : List ℕ) (n : ℕ) → given x ≡ a → Written (f x) old new n → Left (a >>= λ x. given (f x)) (Ok n) new
 given-left f x old new n e w = let l = written-left (f x) old new n w in (l.0 ∙ ap (λ a. a >>= λ x. given (f x)) e, l.1)
+
+-- the error of what is left says whether there is a refusal, and which
+pub left-told : (r : Result ℕ Refusal) (told : Option Refusal) (a : Answer (List ℕ)) (out : List ℕ) → text_in r out ≡ a → told ≡ result_err r → Told told a
+left-told (Ok n) told a out e p = subst (λ t. Told t a) (sym p) (take n out, sym e)
+left-told (Err r) told a out e p = subst (λ t. Told t a) (sym p) (sym e)
 
 module _ (file out : List ℕ) (r : Refusal) where
   pub check-refused : Refused r (checked file) → Left (commanded Command.Check file) (Err r) out

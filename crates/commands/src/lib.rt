@@ -7,6 +7,7 @@ ghost use Rattle.model.specs.Calls.{text_or_x};
 ghost use Rattle.model.specs.Commands.{commanded, prints};
 ghost use Rattle.model.specs.declared.Command.{Command};
 ghost use Rattle.plans.specs.Left.{text_in, Fits, Left};
+ghost use Rattle.commands.specs.Told.{Told};
 
 use model::{Command, Refusal};
 
@@ -104,7 +105,8 @@ fn put_answer(answer: Result<usize, Refusal>, out: &mut [u8]) -> usize
 // Writes what a command prints for a file at the start of a buffer.
 pub fn answer(command: Command, file: &[u8], out: &mut [u8]) -> Said
     requires { 164375 ≤ length out.old }
-    ensures { (take result.bytes out.new ≡ prints command file.now) × (result.bytes ≤ length out.new) }
+    ensures text { (take result.bytes out.new ≡ prints command file.now) × (result.bytes ≤ length out.new) }
+    ensures told { Told result.refusal (commanded command file.now) }
 {
     let answer = ask(command, file, out);
     let bytes = put_answer(answer, out);

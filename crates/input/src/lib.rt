@@ -1,8 +1,9 @@
 // Reading a network file to its end.
 #![tactic(auto)]
 
-ghost use Rattle.std.specs.Prelude.{◌≡◌, ◌≤◌, IfOk, length};
-ghost use Rattle.input.specs.Reading.{within_room};
+ghost use Rattle.std.specs.Prelude.{◌≡◌, ◌≤◌, IfOk, length, take};
+ghost use Rattle.std.specs.Io.KnownBytes.{Consumes, ReadConsumes};
+ghost use Rattle.input.specs.Reading.{within_room, ReadsAll};
 
 use std::io;
 use std::io::Read;
@@ -22,7 +23,8 @@ fn within_room(got: io::Result<usize>, room: usize) -> io::Result<usize>
 
 // One read into a buffer: no bytes where the input ends.
 fn read_some<R: Read>(from: &mut R, buf: &mut [u8]) -> io::Result<usize>
-    ensures { IfOk result (λ n. n ≤ length buf.old) }
+    ensures bound { IfOk result (λ n. n ≤ length buf.old) }
+    ensures bytes { ReadConsumes (R.remaining from.old) (R.remaining from.new) result buf.new }
 {
     let got = from.read(buf);
     within_room(got, buf.len())
@@ -32,7 +34,9 @@ fn read_some<R: Read>(from: &mut R, buf: &mut [u8]) -> io::Result<usize>
 // counts them: `read_exact` fails where the input ends, `read_to_end` needs a heap, and `io::copy` into a `Cursor` says of no count that it
 // is at most the room.
 pub fn read<R: Read>(from: &mut R, buf: &mut [u8]) -> io::Result<usize>
-    ensures { IfOk result (λ n. n ≤ length buf.old) }
+    ensures bound { IfOk result (λ n. n ≤ length buf.old) }
+    ensures bytes { IfOk result (λ n. Consumes (R.remaining from.old) (R.remaining from.new) (take n buf.new)) }
+    ensures all { IfOk result (λ n. ReadsAll (R.remaining from.old) (length buf.old) (take n buf.new)) }
 {
     let mut at: usize = 0;
     while at < buf.len() {
