@@ -28,6 +28,8 @@ pub const HELP: &str = "usage: breakers [COMMAND [NUMBERS]] [FILE]\n\
     help      this text\n\
     version   the version of the engine\n\
     \n\
+    A file called like a command is given with its folder, as ./report.\n\
+    Status of the script ./breakers: 0 answered, 1 refused, 2 nothing printed.\n\
     docs/FORMAT.md explains the network file and every refusal, README.md the rows.\n";
 
 // How the words behind the program's name, the first three of them, are wrong, as one line.
@@ -57,7 +59,11 @@ impl fmt::Display for Complaint<'_> {
                 )?;
             }
             Misuse::TooMany => f.write_str("too many arguments")?,
-            Misuse::Unknown => write!(f, "{} is no command", Quoted(first))?,
+            Misuse::Unknown => write!(
+                f,
+                "{} is no command; the command comes first, then its numbers, then the file",
+                Quoted(first)
+            )?,
         }
         f.write_str(" (breakers help lists the commands)\n")
     }
