@@ -26,6 +26,11 @@ impl StationName {
             None
         }
     }
+
+    // Its number, where its record has been named.
+    pub fn number(&self) -> usize {
+        self.number
+    }
 }
 
 impl fmt::Display for StationName {

@@ -137,9 +137,15 @@ impl fmt::Display for Fault<'_> {
                 } else {
                     ", or open it (state 2)"
                 };
+                let field = match end.side {
+                    Side::One => "from",
+                    Side::Two => "to",
+                };
+                let number = station.number();
                 write!(
                     f,
-                    "{end} is plain (state 0) at HV {station}: make it a breaker (state 1){opening}."
+                    "{end} is plain (state 0) at HV {station}: make it a breaker (state 1){opening}, \
+                     or correct the station ({field}), or the role of station {number} if it is no HV station."
                 )
             }
             Fault::Loop { line, station } => write!(
@@ -147,11 +153,20 @@ impl fmt::Display for Fault<'_> {
                 "both ends of {line} are closed at {station}, so that it is a ring by itself: \
                  correct one of its stations (from or to), or open one end (state 2)."
             ),
-            Fault::Ring(names) => write!(
-                f,
-                "{names} form a ring: \
-                 open one end of one of them (state 2), or correct a wrong station (from or to)."
-            ),
+            Fault::Ring(names) => {
+                // a ring of two lines has them between the same stations
+                let deleting = if names.lines.len() == 2 {
+                    ", or delete one of them if it is there twice and count one line less in record 1 \
+                     (later lines then have numbers one lower, in P records too)"
+                } else {
+                    ""
+                };
+                write!(
+                    f,
+                    "{names} form a ring: \
+                     open one end of one of them (state 2), or correct a wrong station (from or to){deleting}."
+                )
+            }
             Fault::Joined { one, other, names } => {
                 let open_end = if names.lines.len() == 1 {
                     "one of its ends"
@@ -160,7 +175,9 @@ impl fmt::Display for Fault<'_> {
                 };
                 write!(
                     f,
-                    "HV {one} and HV {other} are joined by {names}: open {open_end} (state 2)."
+                    "HV {one} and HV {other} are joined by {names}: \
+                     open {open_end} (state 2), or correct a wrong station (from or to), \
+                     or the role of one of the two stations if it is no HV station."
                 )
             }
             Fault::Unsupplied(unsupplied) => write!(f, "{unsupplied}"),

@@ -124,6 +124,7 @@ mistakes! {
     WordsWithoutRecord: "the words of a refusal name no record",
     WordsUnclosed: "the words of a refusal end in a full stop without newline",
     WordsParallel: "two lines between the same stations are no ring in the words of 6",
+    WordsNoCopy: "the words of 6 do not say that one of two parallel lines may be a copy",
     WordsLargerFirst: "the words of 7 name the larger HV station first",
     WordsNearOnly: "the words of 9 leave out breakers at far ends",
 

@@ -189,7 +189,15 @@ impl Lines {
         if ends.iter().any(|&n| n > 2 || more == 0 && n == 1) || more > 0 && !self.may_be(named[0], named.len() + more) {
             return None;
         }
-        Some(format!("{} form a ring: open one end of one of them (state 2), or correct a wrong station (from or to)", self.lines(&named, more)))
+        // Lines between the same two stations may be one line, there twice.
+        let copied = named.len() == 2 && stations[1].iter().all(|s| stations[0].contains(s));
+        let what = if copied && self.wrong != Some(WordsNoCopy) {
+            ", or delete one of them if it is there twice and count one line less in record 1 (later lines then have numbers one lower, in P records too)"
+        } else {
+            ""
+        };
+        let lines = self.lines(&named, more);
+        Some(format!("{lines} form a ring: open one end of one of them (state 2), or correct a wrong station (from or to){what}"))
     }
 
     /// The words of 7 that name the HV stations of these, with all lines between them.
@@ -202,7 +210,8 @@ impl Lines {
         let between = self.way_back(&self.reached(one, |_| true), other)?;
         let what = if between.len() == 1 { "open one of its ends" } else { "open one end of one of them" };
         let (one, other) = (self.station(one), self.station(other));
-        Some(format!("HV {one} and HV {other} are joined by {}: {what} (state 2)", self.all(between)))
+        let mend = format!("{what} (state 2), or correct a wrong station (from or to), or the role of one of the two stations if it is no HV station");
+        Some(format!("HV {one} and HV {other} are joined by {}: {mend}", self.all(between)))
     }
 
     /// The words of 9 for the path that these name, if it passes too many breakers.
