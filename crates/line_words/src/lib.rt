@@ -3,7 +3,7 @@
 
 ghost use Rattle.std.specs.Prelude.{◌≤◌, ◌^◌};
 
-use lookups::LineSet;
+use lookups::{LineSet, StationSet};
 use network::{Network, Side};
 use std::fmt;
 
@@ -79,19 +79,19 @@ impl fmt::Display for EndName {
     }
 }
 
-// The numbers of some lines where line 1 has the number `first`, as "1, 2 and 3"; behind the first 24 only how many more there are.
+// Some numbers, where the first flag is that of the number `first`, as "1, 2 and 3"; behind the first 24 only how many more there are.
 #[derive(Clone, Copy)]
 struct Numbers<'a> {
-    lines: &'a LineSet,
+    flags: &'a [bool],
     first: usize,
     ghost low: { first ≤ 2 ^ 63 },
 }
 
 impl fmt::Display for Numbers<'_> {
     fn fmt<W: fmt::Write>(&self, f: &mut fmt::Formatter<W>) -> fmt::Result {
-        let count = self.lines.len();
+        let count = self.flags.iter().filter(|&&is_in| is_in).count();
         let numbers = (self.first..)
-            .zip(self.lines.flags())
+            .zip(self.flags)
             .filter(|(_, is_in)| **is_in)
             .take(24);
         for (done, (number, _)) in (1..).zip(numbers) {
@@ -109,6 +109,21 @@ impl fmt::Display for Numbers<'_> {
     }
 }
 
+// Some stations, as "stations 1 and 3".
+#[derive(Clone, Copy)]
+pub struct StationNumbers<'a>(pub &'a StationSet);
+
+impl fmt::Display for StationNumbers<'_> {
+    fn fmt<W: fmt::Write>(&self, f: &mut fmt::Formatter<W>) -> fmt::Result {
+        let ending = if self.0.len() == 1 { "" } else { "s" };
+        let numbers = Numbers {
+            flags: self.0.flags(),
+            first: 1,
+        };
+        write!(f, "station{ending} {numbers}")
+    }
+}
+
 // Some lines with their records, as "lines 1 and 3 (records 7 and 9)".
 #[derive(Clone, Copy)]
 pub struct LineNames<'a> {
@@ -120,11 +135,11 @@ impl fmt::Display for LineNames<'_> {
     fn fmt<W: fmt::Write>(&self, f: &mut fmt::Formatter<W>) -> fmt::Result {
         let ending = if self.lines.len() == 1 { "" } else { "s" };
         let numbers = Numbers {
-            lines: &self.lines,
+            flags: self.lines.flags(),
             first: 1,
         };
         let records = Numbers {
-            lines: &self.lines,
+            flags: self.lines.flags(),
             first: 2 + self.network.stations().len(),
         };
         write!(f, "line{ending} {numbers} (record{ending} {records})")

@@ -1,4 +1,4 @@
-// A network asked by any number, and sets of its lines.
+// A network asked by any number, and sets of its stations and lines.
 #![tactic(auto)]
 
 use network::{Line, Network, Role, Side, State, Station};
@@ -31,34 +31,41 @@ pub fn joined_by(line: &Line) -> Option<(usize, usize)> {
     Some((closed_at(line, Side::One)?, closed_at(line, Side::Two)?))
 }
 
-// A set of lines, by their numbers, of which there are at most 768: fixed memory, without a heap.
+// A set of numbers from 1 to `MOST`: fixed memory, without a heap.
 #[derive(Clone, Copy)]
-pub struct LineSet {
-    has: [bool; 768],
+pub struct NumberSet<const MOST: usize> {
+    has: [bool; MOST],
 }
 
-impl LineSet {
-    // The set without lines.
-    pub fn empty() -> LineSet {
-        LineSet { has: [false; 768] }
+// A set of stations, by their numbers, of which there are at most 512.
+pub type StationSet = NumberSet<512>;
+
+// A set of lines, by their numbers, of which there are at most 768.
+pub type LineSet = NumberSet<768>;
+
+impl<const MOST: usize> NumberSet<MOST> {
+    // The set without numbers.
+    pub fn empty() -> Self {
+        NumberSet { has: [false; MOST] }
     }
 
-    // Whether a line is in the set.
-    pub fn contains(&self, line: usize) -> bool {
-        line.checked_sub(1)
+    // Whether a number is in the set.
+    pub fn contains(&self, number: usize) -> bool {
+        number
+            .checked_sub(1)
             .is_some_and(|index| self.has.get(index) == Some(&true))
     }
 
-    // Puts a line into the set.
-    pub fn insert(&mut self, line: usize) {
-        if let Some(index) = line.checked_sub(1)
+    // Puts a number into the set.
+    pub fn insert(&mut self, number: usize) {
+        if let Some(index) = number.checked_sub(1)
             && let Some(is_in) = self.has.get_mut(index)
         {
             *is_in = true;
         }
     }
 
-    // Leaves the lines only that are to be kept.
+    // Leaves the numbers only that are to be kept.
     pub fn retain<F: Fn(usize) -> bool>(&mut self, keeps: F)
         requires { F.IsAlwaysCallable keeps }
     {
@@ -67,17 +74,17 @@ impl LineSet {
         }
     }
 
-    // For each line that a network can have, in order, whether it is in the set.
-    pub fn flags(&self) -> &[bool; 768] {
+    // For each number that the set can have, in order, whether it is in the set.
+    pub fn flags(&self) -> &[bool] {
         &self.has
     }
 
-    // How many lines are in the set.
+    // How many numbers are in the set.
     pub fn len(&self) -> usize {
         self.has.iter().filter(|&&is_in| is_in).count()
     }
 
-    // Whether no line is in the set.
+    // Whether no number is in the set.
     pub fn is_empty(&self) -> bool {
         self.len() == 0
     }

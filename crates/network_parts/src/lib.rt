@@ -2,7 +2,7 @@
 // an HV station if the part has one.
 #![tactic(auto)]
 
-use lookups::{LineSet, is_hv, joined_by};
+use lookups::{is_hv, joined_by};
 use network::{Line, Network, Role};
 
 // Whether there is an HV station.
@@ -11,17 +11,6 @@ pub fn has_hv(network: &Network) -> bool {
         .stations()
         .iter()
         .any(|station| station.role == Role::Hv)
-}
-
-// The lines with an end at a station.
-pub fn lines_at(network: &Network, station: usize) -> LineSet {
-    let mut lines = LineSet::empty();
-    for (number, line) in (1..).zip(network.lines()) {
-        if line.from == station || line.to == station {
-            lines.insert(number);
-        }
-    }
-    lines
 }
 
 // The label of each station, of which there are at most 512: fixed memory, without a heap.
@@ -78,43 +67,6 @@ impl Parts {
         } else {
             self.rename(one, other);
         }
-    }
-
-    // The label of the part that a line leads to from another part.
-    fn beyond(&self, line: &Line, label: usize) -> Option<usize> {
-        match (self.label(line.from)?, self.label(line.to)?) {
-            (from, to) if from == to => None,
-            (from, to) if from == label => Some(to),
-            (from, to) if to == label => Some(from),
-            _ => None,
-        }
-    }
-
-    // The first line that leads out of the part of a station to a part that is sought. If the parts are those of the network, one of its
-    // ends is open.
-    fn way_to<F: Fn(usize) -> bool>(
-        &self,
-        network: &Network,
-        station: usize,
-        is_sought: F,
-    ) -> Option<usize>
-        requires { F.IsAlwaysCallable is_sought }
-    {
-        let label = self.label(station)?;
-        let leads_there =
-            |line: &Line| matches!(self.beyond(line, label), Some(part) if is_sought(part));
-        let index = network.lines().iter().position(leads_there)?;
-        Some(index + 1)
-    }
-
-    // The first line that leads out of the part of a station to a part that has an HV station.
-    pub fn way_to_supply(&self, network: &Network, station: usize) -> Option<usize> {
-        self.way_to(network, station, |part| is_hv(network, part))
-    }
-
-    // The first line that leads out of the part of a station.
-    pub fn way_out(&self, network: &Network, station: usize) -> Option<usize> {
-        self.way_to(network, station, |_| true)
     }
 }
 

@@ -1,10 +1,10 @@
 // Why a station has no supply, in words.
 #![tactic(auto)]
 
-use line_words::{EndName, LineName, LineNames, StationName};
-use lookups::is_hv;
+use islands::Island;
+use line_words::{EndName, LineName, StationName, StationNumbers};
+use lookups::{LineSet, StationSet, is_hv};
 use network::{Line, Network, Side, State};
-use network_parts::Parts;
 use std::fmt;
 
 // The open end of a line with one.
@@ -15,100 +15,121 @@ fn open_side(line: &Line) -> Side {
     }
 }
 
-// An open end of a line, and whether it is at an HV station.
+// The open ends of some lines with one each, as "end 1 of line 3 (record 9) or end 2 of line 4 (record 10)"; behind the first 24 only
+// how many more there are.
 #[derive(Clone, Copy)]
-struct OpenEnd {
-    end: EndName,
-    is_at_hv: bool,
+struct OpenEnds<'a> {
+    network: &'a Network,
+    lines: LineSet,
 }
 
-impl OpenEnd {
-    // The open end of a line with one.
-    fn find(network: &Network, number: usize) -> Option<Self> {
-        let line = lookups::line(network, number)?;
-        let side = open_side(&line);
-        Some(OpenEnd {
-            end: EndName {
-                side,
-                line: LineName::find(network, number)?,
-            },
-            is_at_hv: is_hv(network, line.station(side)),
-        })
+impl OpenEnds<'_> {
+    // How many of the ends are at an HV station.
+    fn at_hv(&self) -> usize {
+        (1..)
+            .zip(self.network.lines())
+            .filter(|(number, line)| {
+                self.lines.contains(*number) && is_hv(self.network, line.station(open_side(line)))
+            })
+            .count()
     }
 
-    // How to close the end.
+    // How one of the ends is closed.
     fn closing(&self) -> &'static str {
-        if self.is_at_hv {
-            "make that end a breaker (state 1)"
-        } else {
-            "close that end (state 0 plain, 1 breaker)"
+        match self.at_hv() {
+            0 => "closed (state 0 plain, 1 breaker)",
+            count if count == self.lines.len() => "made a breaker (state 1)",
+            _ => "closed (state 0 plain, 1 breaker; only 1 at an HV station)",
         }
     }
 }
 
-// Why a station has no closed path to an HV station.
+impl fmt::Display for OpenEnds<'_> {
+    fn fmt<W: fmt::Write>(&self, f: &mut fmt::Formatter<W>) -> fmt::Result {
+        let count = self.lines.len();
+        let ends = (1..)
+            .zip(self.network.lines())
+            .filter(|(number, _)| self.lines.contains(*number))
+            .take(24);
+        for (done, (number, line)) in (1..).zip(ends) {
+            let separator = match done {
+                1 => "",
+                _ if done == count => " or ",
+                _ => ", ",
+            };
+            if let Some(name) = LineName::find(self.network, number) {
+                let end = EndName {
+                    side: open_side(line),
+                    line: name,
+                };
+                write!(f, "{separator}{end}")?;
+            }
+        }
+        if count > 24 {
+            write!(f, " or {} more", count - 24)?;
+        }
+        Ok(())
+    }
+}
+
+// Where lines with an open end lead from stations without supply.
 #[derive(Clone, Copy)]
-enum Cause<'a> {
-    // an open end parts it from the supply
-    Cut(OpenEnd),
-    // an open end leads to stations that have no supply either
-    Beyond(OpenEnd),
-    // no line ends at it
-    NoLine,
-    // the lines that end at it lead to no HV station
-    DeadEnd(LineNames<'a>),
+enum Exits<'a> {
+    // to stations with supply
+    Supplied(OpenEnds<'a>),
+    // to stations that have no supply either
+    Unsupplied(OpenEnds<'a>),
+    // there is no such line
+    None,
 }
 
-impl<'a> Cause<'a> {
-    // Why a station without supply has none; the parts are those of the network.
-    fn find(network: &'a Network, parts: &Parts, station: usize) -> Option<Self> {
-        if let Some(line) = parts.way_to_supply(network, station) {
-            return Some(Cause::Cut(OpenEnd::find(network, line)?));
+impl<'a> Exits<'a> {
+    // Where lines lead from an island.
+    fn find(network: &'a Network, island: &Island) -> Self {
+        let lines = island.ways_to_supply();
+        if !lines.is_empty() {
+            return Exits::Supplied(OpenEnds { network, lines });
         }
-        if let Some(line) = parts.way_out(network, station) {
-            return Some(Cause::Beyond(OpenEnd::find(network, line)?));
+        let lines = island.ways_out();
+        if !lines.is_empty() {
+            return Exits::Unsupplied(OpenEnds { network, lines });
         }
-        let lines = network_parts::lines_at(network, station);
-        if lines.is_empty() {
-            return Some(Cause::NoLine);
-        }
-        Some(Cause::DeadEnd(LineNames { network, lines }))
+        Exits::None
     }
 }
 
-impl fmt::Display for Cause<'_> {
+impl fmt::Display for Exits<'_> {
     fn fmt<W: fmt::Write>(&self, f: &mut fmt::Formatter<W>) -> fmt::Result {
         match self {
-            Cause::Cut(open) => {
-                let closing = open.closing();
+            Exits::Supplied(ends) => {
+                let closing = ends.closing();
                 write!(
                     f,
-                    ", since {} is open (state 2): {closing}, or add a line.",
-                    open.end
+                    " Or an open end that is no normally open point should be {closing}: {ends}."
                 )
             }
-            Cause::Beyond(open) => write!(
+            Exits::Unsupplied(ends) => write!(
                 f,
-                ": {} is open (state 2), and what lies behind it has no supply either. \
-                 Close the open ends on the way to an HV station, or add a line.",
-                open.end
+                " Or open ends that are no normally open points should be closed on the way to an HV station \
+                 (state 0 plain, 1 breaker; only 1 at an HV station): \
+                 what lies behind {ends} has no supply either."
             ),
-            Cause::NoLine => f.write_str(
-                ", since no line ends at it: add a line, \
-                 or correct the station (from or to) of one that should end there.",
-            ),
-            Cause::DeadEnd(names) => {
-                let verb = if names.lines.len() == 1 {
-                    "ends"
-                } else {
-                    "end"
-                };
-                write!(
-                    f,
-                    ": {names} {verb} at it, but no line, closed or open, \
-                     leads on to a station with supply: add a line, or correct a station (from or to)."
-                )
-            }
+            Exits::None => Ok(()),
+        }
+    }
+}
+
+// That stations have no supply either, being joined with one that has none.
+#[derive(Clone, Copy)]
+struct Joined(StationSet);
+
+impl fmt::Display for Joined {
+    fn fmt<W: fmt::Write>(&self, f: &mut fmt::Formatter<W>) -> fmt::Result {
+        let stations = StationNumbers(&self.0);
+        match self.0.len() {
+            0 => Ok(()),
+            1 => write!(f, ", nor has {stations}, which is joined with it"),
+            _ => write!(f, ", nor have {stations}, which are joined with it"),
         }
     }
 }
@@ -118,9 +139,13 @@ impl fmt::Display for Cause<'_> {
 enum Fault<'a> {
     // no station is an HV station
     NoHv,
-    Station {
+    // no line ends at it
+    NoLine(StationName),
+    // closed lines join it with no HV station
+    Island {
         station: StationName,
-        cause: Cause<'a>,
+        joined: Joined,
+        exits: Exits<'a>,
     },
 }
 
@@ -135,24 +160,52 @@ impl<'a> Unsupplied<'a> {
         if !network_parts::has_hv(network) {
             return Some(Unsupplied(Fault::NoHv));
         }
-        let parts = Parts::of(network);
-        if is_hv(network, parts.label(number)?) {
-            return None;
+        let island = Island::find(network, number)?;
+        if !islands::has_line(network, number) {
+            return Some(Unsupplied(Fault::NoLine(station)));
         }
-        let cause = Cause::find(network, &parts, number)?;
-        Some(Unsupplied(Fault::Station { station, cause }))
+        Some(Unsupplied(Fault::Island {
+            station,
+            joined: Joined(island.others(number)),
+            exits: Exits::find(network, &island),
+        }))
     }
 }
 
 impl fmt::Display for Unsupplied<'_> {
     fn fmt<W: fmt::Write>(&self, f: &mut fmt::Formatter<W>) -> fmt::Result {
-        match self.0 {
+        match &self.0 {
             Fault::NoHv => f.write_str(
                 "no station is an HV station: \
                  give the one that feeds the network role 1, and no customers, in its S record.",
             ),
-            Fault::Station { station, cause } => {
-                write!(f, "{station} has no closed path to an HV station{cause}")
+            Fault::NoLine(station) => write!(
+                f,
+                "{station} has no closed path to an HV station, since no line ends at it: add a line, \
+                 or correct the station (from or to) of one that should end there. \
+                 A station put in or taken out changes the numbers of all later ones, in the L records too."
+            ),
+            Fault::Island {
+                station,
+                joined,
+                exits,
+            } => {
+                let (them, one) = if joined.0.is_empty() {
+                    ("it", "it")
+                } else {
+                    ("them", "one of them")
+                };
+                let dead_end = match exits {
+                    Exits::None => ", and no line with an open end leads on from there",
+                    Exits::Supplied(_) | Exits::Unsupplied(_) => "",
+                };
+                write!(
+                    f,
+                    "{station} has no closed path to an HV station{joined}{dead_end}. \
+                     Either a line that should feed {them} is missing or ends at a wrong station (from or to): \
+                     add or correct it.{exits} \
+                     Or {one} is a substation: give it role 1 and no customers in its S record."
+                )
             }
         }
     }
