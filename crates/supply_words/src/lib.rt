@@ -191,9 +191,9 @@ impl fmt::Display for Unsupplied<'_> {
                 exits,
             } => {
                 let (them, one) = if joined.0.is_empty() {
-                    ("it", "it")
+                    ("it", "the station")
                 } else {
-                    ("them", "one of them")
+                    ("them", "one of these stations")
                 };
                 let dead_end = match exits {
                     Exits::None => ", and no line with an open end leads on from there",

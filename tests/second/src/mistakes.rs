@@ -126,6 +126,8 @@ mistakes! {
     WordsParallel: "two lines between the same stations are no ring in the words of 6",
     WordsNoCopy: "the words of 6 do not say that one of two parallel lines may be a copy",
     WordsLargerFirst: "the words of 7 name the larger HV station first",
+    WordsAlone: "the words of 8 name no station that is joined with the one without supply",
+    WordsFirstWay: "the words of 8 name the first open end alone",
     WordsNearOnly: "the words of 9 leave out breakers at far ends",
 
     // The segment table

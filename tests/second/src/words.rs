@@ -1,5 +1,6 @@
-//! The words on standard error: nothing for an answer, one line for a refusal. Those of 6, 7 and 9 are held to the network: which
-//! lines lie on a ring, on the path between two HV stations or behind each other is worked out anew, from the file's lines alone.
+//! The words on standard error: nothing for an answer, one line for a refusal. Those of 6 to 9 are held to the network: which
+//! lines lie on a ring, on the path between two HV stations or behind each other, and what is joined with a station without supply,
+//! is worked out anew, from the file's stations and lines alone.
 
 use crate::file::{File, Refusal, BREAKER, OPEN};
 use crate::mistakes::Mistake::*;
@@ -35,6 +36,7 @@ pub fn fault_of(file: &[u8], text: &[u8], words: &[u8], wrong: Wrong) -> Option<
     let due = match number {
         6 => lines().ring(sentence),
         7 => lines().joined(sentence),
+        8 => (record as usize).checked_sub(2).and_then(|station| lines().unsupplied(station)),
         9 => lines().series(sentence),
         _ => return None,
     };
@@ -61,14 +63,20 @@ fn listed(list: &str) -> Option<(Vec<usize>, usize)> {
     Some((numbers?, more))
 }
 
-/// Numbers as a list, with how many more it has.
-fn list(numbers: &[usize], more: usize) -> String {
-    let words: Vec<String> = numbers.iter().map(usize::to_string).collect();
+/// What is named as a list whose last part stands behind a word, with how many more it has.
+fn list<T: ToString>(named: &[T], word: &str, more: usize) -> String {
+    let words: Vec<String> = named.iter().map(T::to_string).collect();
     match words.split_last() {
-        _ if more > 0 => format!("{} and {more} more", words.join(", ")),
-        Some((last, first)) if !first.is_empty() => format!("{} and {last}", first.join(", ")),
+        _ if more > 0 => format!("{} {word} {more} more", words.join(", ")),
+        Some((last, first)) if !first.is_empty() => format!("{} {word} {last}", first.join(", ")),
         _ => words.concat(),
     }
+}
+
+/// The first of some parts that are named, as a list with a word, with how many more there are.
+fn list_of_all<T: ToString>(parts: &[T], word: &str) -> String {
+    let named = &parts[..parts.len().min(MOST_NAMED)];
+    list(named, word, parts.len() - named.len())
 }
 
 /// A file whose lines are looked at, with a mistake or none.
@@ -129,7 +137,7 @@ impl Lines {
         let s = if named.len() == 1 { "" } else { "s" };
         let numbers: Vec<usize> = named.iter().map(|l| l + 1).collect();
         let records: Vec<usize> = named.iter().map(|&l| self.file.record_of_line(l)).collect();
-        format!("line{s} {} (record{s} {})", list(&numbers, more), list(&records, more))
+        format!("line{s} {} (record{s} {})", list(&numbers, "and", more), list(&records, "and", more))
     }
 
     /// All of some lines in words.
@@ -214,6 +222,83 @@ impl Lines {
         Some(format!("HV {one} and HV {other} are joined by {}: {mend}", self.all(between)))
     }
 
+    /// The open ends of some lines with one each, by index, in words, and how one of them is closed.
+    fn open_ends(&self, lines: &[usize]) -> (String, &str) {
+        let end = |l: usize| usize::from(self.file.lines[l].states[1] == OPEN);
+        let names: Vec<String> = lines.iter().map(|&l| format!("end {} of {}", end(l) + 1, self.lines(&[l], 0))).collect();
+        let at_hv = lines.iter().filter(|&&l| self.is_hv(self.file.lines[l].stations[end(l)])).count();
+        let closing = match at_hv {
+            0 => "closed (state 0 plain, 1 breaker)",
+            n if n == lines.len() => "made a breaker (state 1)",
+            _ => "closed (state 0 plain, 1 breaker; only 1 at an HV station)",
+        };
+        (list_of_all(&names, "or"), closing)
+    }
+
+    /// The words of 8 for a station, if it has no supply.
+    fn unsupplied(&self, station: usize) -> Option<String> {
+        let count = self.file.stations.len();
+        if !(0..count).any(|s| self.is_hv(s)) {
+            return Some(
+                "no station is an HV station: give the one that feeds the network role 1, and no customers, in its S record"
+                    .into(),
+            );
+        }
+        let reached = |from| -> Vec<usize> {
+            let over = self.reached(from, |_| true);
+            (0..count).filter(|&s| over[s].is_some()).collect()
+        };
+        let is_supplied = |s| reached(s).iter().any(|&s| self.is_hv(s));
+        if station >= count || is_supplied(station) {
+            return None;
+        }
+        let no_path = format!("{} has no closed path to an HV station", self.station(station));
+        if !self.file.lines.iter().any(|line| line.stations.contains(&station)) {
+            let mend = "add a line, or correct the station (from or to) of one that should end there";
+            let numbers = "A station put in or taken out changes the numbers of all later ones, in the L records too";
+            return Some(format!("{no_path}, since no line ends at it: {mend}. {numbers}"));
+        }
+        let mut joined = reached(station);
+        // The lines out of there, each with whether it leads to supply.
+        let ways = self.file.lines.iter().enumerate().filter_map(|(l, line)| match line.stations.map(|s| joined.contains(&s)) {
+            [true, false] => Some((l, is_supplied(line.stations[1]))),
+            [false, true] => Some((l, is_supplied(line.stations[0]))),
+            _ => None,
+        });
+        let (to_supply, elsewhere): (Vec<_>, Vec<_>) = ways.partition(|way| way.1);
+        let mut to_supply: Vec<usize> = to_supply.iter().map(|way| way.0).collect();
+        let elsewhere: Vec<usize> = elsewhere.iter().map(|way| way.0).collect();
+        if self.wrong == Some(WordsFirstWay) {
+            to_supply.truncate(1);
+        }
+        joined.retain(|&s| s != station);
+        let numbers: Vec<usize> = joined.iter().map(|s| s + 1).collect();
+        let nor = match numbers[..] {
+            _ if self.wrong == Some(WordsAlone) => String::new(),
+            [] => String::new(),
+            [one] => format!(", nor has station {one}, which is joined with it"),
+            _ => format!(", nor have stations {}, which are joined with it", list_of_all(&numbers, "and")),
+        };
+        let (them, one) = if joined.is_empty() { ("it", "the station") } else { ("them", "one of these stations") };
+        let dead_end =
+            if to_supply.len() + elsewhere.len() > 0 { "" } else { ", and no line with an open end leads on from there" };
+        let way = if !to_supply.is_empty() {
+            let (ends, closing) = self.open_ends(&to_supply);
+            format!(" Or an open end that is no normally open point should be {closing}: {ends}.")
+        } else if !elsewhere.is_empty() {
+            let what = "Or open ends that are no normally open points should be closed on the way to an HV station";
+            let (ends, _) = self.open_ends(&elsewhere);
+            format!(" {what} (state 0 plain, 1 breaker; only 1 at an HV station): what lies behind {ends} has no supply either.")
+        } else {
+            String::new()
+        };
+        let line = format!(
+            "Either a line that should feed {them} is missing or ends at a wrong station (from or to): add or correct it."
+        );
+        let substation = format!("Or {one} is a substation: give it role 1 and no customers in its S record");
+        Some(format!("{no_path}{nor}{dead_end}. {line}{way} {substation}"))
+    }
+
     /// The words of 9 for the path that these name, if it passes too many breakers.
     fn series(&self, words: &str) -> Option<String> {
         let from = index_behind(words, "the path from HV station ").filter(|&s| self.is_hv(s))?;
@@ -239,7 +324,8 @@ impl Lines {
             _ => "; series can be 8 at most".into(),
         };
         let start = format!("the path from HV {} to {} passes {passed} breakers", self.station(from), self.lines(&[to], 0));
-        let limit = format!("record 1 allows {series} in series: make some of them plain (state 0, but none that is at an HV station)");
+        let limit =
+            format!("record 1 allows {series} in series: make some of them plain (state 0, but none that is at an HV station)");
         Some(format!("{start}, on {}, and {limit}{what}", self.all(path)))
     }
 }
