@@ -10,6 +10,11 @@ use std::cmp::Ordering;
 use std::fmt;
 use words::Quoted;
 
+// What a field of a kind of record is called; nothing if there is no such field.
+pub fn field_name(kind: Kind, field: usize) -> &'static str {
+    kind_words::form(kind).split(',').nth(field).unwrap_or("")
+}
+
 // What stands in a field.
 #[derive(Clone, Copy, Debug, PartialEq, Eq)]
 pub struct Content<'a>(pub &'a [u8]);
@@ -30,6 +35,39 @@ fn only_digits_and(bytes: &[u8], other: u8) -> bool {
         .all(|&byte| byte == other || byte.is_ascii_digit())
 }
 
+// Whether bytes are digits and letters that look like some: O for 0, l or I for 1.
+fn only_like_digits(bytes: &[u8]) -> bool {
+    bytes.iter().all(|&byte| matches!(byte, b'0'..=b'9' | b'O' | b'o' | b'l' | b'I'))
+}
+
+// Whether each of some bytes is a letter.
+fn only_letters(bytes: &[u8]) -> bool {
+    bytes
+        .iter()
+        .all(|&byte| matches!(byte, b'a'..=b'z' | b'A'..=b'Z'))
+}
+
+// Whether all bytes are ASCII.
+pub fn only_ascii(bytes: &[u8]) -> bool {
+    bytes.iter().all(|&byte| byte < 128)
+}
+
+// Why bytes with something else than digits and spaces are no number.
+fn sign_fault(bytes: &[u8]) -> &'static str {
+    if !only_ascii(bytes) {
+        ": it has characters that are not plain ASCII (shown as \\x..), though they may look like digits or spaces \
+        or be invisible; type the field again"
+    } else if only_like_digits(bytes) {
+        ": a letter stands in it for a digit (O for 0, or l or I for 1)"
+    } else if bytes.contains(&b'"') {
+        ": a number has no quotation marks"
+    } else if bytes.len() > 1 && only_letters(bytes) {
+        ": a number has only the digits 0 to 9, no sign, point or unit (if the record is a heading, delete it)"
+    } else {
+        ": a number has only the digits 0 to 9, no sign, point or unit"
+    }
+}
+
 // Why the bytes of a field are no number; nothing of a field that is empty.
 fn number_fault(bytes: &[u8]) -> &'static str {
     if bytes.is_empty() {
@@ -45,7 +83,7 @@ fn number_fault(bytes: &[u8]) -> &'static str {
     } else if only_digits_and(bytes, b'\t') {
         ": a number has no tabs in it"
     } else {
-        ": a number has only the digits 0 to 9, no sign, point or unit"
+        sign_fault(bytes)
     }
 }
 
@@ -193,7 +231,7 @@ impl fmt::Display for WrongField<'_> {
             range,
             context,
         } = *self;
-        let name = kind_words::form(kind).split(',').nth(field).unwrap_or("");
+        let name = field_name(kind, field);
         let limits = Limits {
             least: range.least,
             largest: ranges::largest_of(range.largest, context),

@@ -119,15 +119,18 @@ impl fmt::Display for WrongPlace {
             ),
             Fault::Twice { end } => write!(
                 f,
-                "it names {end}, as the record before it does; delete one of the two."
+                "it names {end}, as the record before it does: correct the line or end of one of the two \
+                (lines may have been put in, taken out or swapped), or delete one."
             ),
             Fault::Unsorted { end, before } => write!(
                 f,
-                "it names {end}, but the record before it names {before}; sort the places by line, then by end."
+                "it names {end}, but the record before it names {before}: correct the line or end of one of the two \
+                (lines may have been put in, taken out or swapped), or sort the places by line, then by end."
             ),
             Fault::NotPlain { end, taken, record } => write!(
                 f,
-                "it names {end}, which {taken} (state{} of record {record}); delete this place or correct that record.",
+                "it names {end}, which {taken} (state{} of record {record}): correct its line or end \
+                (lines may have been put in, taken out or swapped), correct that record, or delete this place.",
                 end.side.number()
             ),
         }

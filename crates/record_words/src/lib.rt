@@ -1,14 +1,16 @@
 // Why a record of a network file was refused with 1, 2 or 3, in words for the planner who wrote it.
 #![tactic(auto)]
 
-use field_words::{Content, WrongField};
+use field_words::WrongField;
 use file_parts::{Announced, Record};
-use kind_words::{Announcement, Count, Due, WrongKind, form};
+use kind_words::{Announcement, Due, form};
+use letter_words::WrongLetter;
 use model::Refusal;
 use place_words::WrongPlace;
 use ranges::Kind;
 use std::fmt;
-use words::Quoted;
+use text_words::WrongText;
+use width_words::{SplitRecord, WrongWidth};
 
 // What is wrong with a record or with the file.
 #[derive(Clone, Copy, Debug, PartialEq, Eq)]
@@ -19,26 +21,12 @@ enum Fault<'a> {
     EmptyFile,
     // the file ends before the record
     Absent { due: Due, announced: Announced },
-    // the file is not saved as plain text
-    ByteOrderMark,
-    NotPlainText,
-    // what is wrong with the record before its fields are looked at
-    CarriageReturn,
-    NoNewline,
-    EmptyRecord,
-    // what stands before the letter, or begins a comment
-    Space,
-    Tab,
-    QuotationMark,
-    Comment { mark: u8 },
+    WrongText(WrongText<'a>),
     // the fields are parted by something else than commas
     NoCommas { kind: Kind },
-    // the first field is the letter of another kind than the one that is due
-    WrongKind(WrongKind),
-    // the first field is no letter of a kind
-    NoLetter { field: &'a [u8], due: Due },
-    // too few or too many fields
-    WrongWidth { width: usize, kind: Kind },
+    WrongLetter(WrongLetter<'a>),
+    WrongWidth(WrongWidth<'a>),
+    SplitRecord(SplitRecord),
     WrongField(WrongField<'a>),
     WrongPlace(WrongPlace),
 }
@@ -48,101 +36,52 @@ enum Fault<'a> {
 pub struct Explanation<'a>(Option<Fault<'a>>);
 
 // What is wrong where a file ends before a record.
-fn absence(file: &[u8], due: Due, announced: Announced) -> Option<Fault<'_>> {
+fn absence(file: &[u8], number: u64) -> Option<Fault<'_>> {
     if file.is_empty() {
         return Some(Fault::EmptyFile);
     }
-    match due {
+    let announced = Announced::by(file);
+    match Due::at(number, announced) {
         Due::Place => None,
-        _ => Some(Fault::Absent { due, announced }),
+        due => Some(Fault::Absent { due, announced }),
     }
 }
 
-// How a file is not saved as plain text, by the bytes of its first record.
-fn encoding_fault(text: &[u8], number: u64) -> Option<Fault<'_>> {
-    if number != 1 {
+// Whether the fields of a record are parted by something else than commas. Where no letter of a kind is there, it is taken for the one
+// that is due.
+fn parted_fault(text: &[u8], due: Kind) -> Option<Fault<'_>> {
+    let letter = match text {
+        [letter, b';' | b'\t', ..] | [letter, b' ', .., b'0'..=b'9'] => *letter,
+        _ => return None,
+    };
+    if text.contains(&b',') {
         return None;
     }
-    match text {
-        [0xef, 0xbb, ..] => Some(Fault::ByteOrderMark),
-        [0xff, 0xfe, ..] | [0xfe, 0xff, ..] => Some(Fault::NotPlainText),
-        _ if text.contains(&0) => Some(Fault::NotPlainText),
-        _ => None,
-    }
+    let kind = kind_words::kind_of(letter).unwrap_or(due);
+    Some(Fault::NoCommas { kind })
 }
 
-// What is wrong with a record before its fields are looked at.
-fn line_fault(record: Record<'_>) -> Option<Fault<'_>> {
-    if record.text.contains(&b'\r') {
-        Some(Fault::CarriageReturn)
-    } else if !record.is_closed {
-        Some(Fault::NoNewline)
-    } else if record.text.is_empty() {
-        Some(Fault::EmptyRecord)
-    } else {
-        None
-    }
-}
-
-// What stands before the letter of a record, or that the record is a comment.
-fn start_fault(text: &[u8]) -> Option<Fault<'_>> {
-    match text.first()? {
-        b' ' => Some(Fault::Space),
-        b'\t' => Some(Fault::Tab),
-        b'"' => Some(Fault::QuotationMark),
-        &mark @ (b'#' | b'/' | b';' | b'-') => Some(Fault::Comment { mark }),
-        _ => None,
-    }
-}
-
-// Whether the fields of a record are parted by something else than commas.
-fn parted_fault(text: &[u8], kind: Kind) -> Option<Fault<'_>> {
-    let parted = text.contains(&b';')
-        || text.contains(&b'\t')
-        || text.starts_with(&[kind.letter(), b' ']);
-    if parted && !text.contains(&b',') {
-        Some(Fault::NoCommas { kind })
-    } else {
-        None
-    }
-}
-
-// How the first field of a record is not the letter that is due.
-fn letter_fault(record: Record<'_>, due: Due, announced: Announced) -> Option<Fault<'_>> {
-    let field = record.field(0);
-    let there = match field {
-        [letter] => kind_words::kind_of(*letter),
-        _ => None,
-    };
-    match there {
-        Some(there) if there == due.kind() => None,
-        Some(there) => Some(Fault::WrongKind(WrongKind {
-            there,
-            due,
-            announced,
-        })),
-        None => Some(Fault::NoLetter { field, due }),
-    }
-}
-
-// How a record has too few or too many fields.
-fn width_fault(record: Record<'_>, kind: Kind) -> Option<Fault<'_>> {
-    let width = record.width();
-    if width == kind.ranges().len() {
-        None
-    } else {
-        Some(Fault::WrongWidth { width, kind })
-    }
-}
-
-// What is wrong with the letter and the fields of a record.
-fn fields_fault(record: Record<'_>, due: Due, announced: Announced) -> Option<Fault<'_>> {
+// What is wrong with a record of a file.
+fn record_fault<'a>(file: &'a [u8], number: u64, record: Record<'a>) -> Option<Fault<'a>> {
+    let announced = Announced::by(file);
+    let due = Due::at(number, announced);
     let kind = due.kind();
-    start_fault(record.text)
-        .or_else(|| parted_fault(record.text, kind))
-        .or_else(|| letter_fault(record, due, announced))
-        .or_else(|| width_fault(record, kind))
-        .or_else(|| WrongField::no_number(record, kind, announced).map(Fault::WrongField))
+    if let Some(wrong) = WrongText::find(file, number, record) {
+        return Some(Fault::WrongText(wrong));
+    }
+    if let Some(fault) = parted_fault(record.text, kind) {
+        return Some(fault);
+    }
+    if let Some(wrong) = WrongLetter::find(file, record, due, announced) {
+        return Some(Fault::WrongLetter(wrong));
+    }
+    if let Some(wrong) = WrongWidth::find(file, number, record, kind) {
+        return Some(Fault::WrongWidth(wrong));
+    }
+    if let Some(wrong) = SplitRecord::find(file, number, record, kind) {
+        return Some(Fault::SplitRecord(wrong));
+    }
+    WrongField::no_number(record, kind, announced).map(Fault::WrongField)
 }
 
 // Whether a file is too long.
@@ -151,24 +90,18 @@ fn length_fault(file: &[u8]) -> Option<Fault<'_>> {
     too_long.then_some(Fault::TooLong)
 }
 
-// How a record is absent or has the wrong form.
-fn record_fault(file: &[u8], number: u64) -> Option<Fault<'_>> {
+// How a file or one of its records has the wrong form.
+fn form_fault(file: &[u8], number: u64) -> Option<Fault<'_>> {
+    if let Some(fault) = length_fault(file) {
+        return Some(fault);
+    }
     if number == 0 {
         return None;
     }
-    let announced = Announced::by(file);
-    let due = Due::at(number, announced);
-    let Some(record) = Record::find(file, number) else {
-        return absence(file, due, announced);
-    };
-    encoding_fault(record.text, number)
-        .or_else(|| line_fault(record))
-        .or_else(|| fields_fault(record, due, announced))
-}
-
-// How a file or one of its records has the wrong form.
-fn form_fault(file: &[u8], number: u64) -> Option<Fault<'_>> {
-    length_fault(file).or_else(|| record_fault(file, number))
+    match Record::find(file, number) {
+        Some(record) => record_fault(file, number, record),
+        None => absence(file, number),
+    }
 }
 
 // How a number of a record is out of its range.
@@ -206,7 +139,7 @@ impl fmt::Display for Fault<'_> {
             Fault::EmptyFile => {
                 write!(
                     f,
-                    "the file is empty; its first record is {}.",
+                    "the file, or what came on standard input, is empty; its first record is {}.",
                     form(Kind::Head)
                 )
             }
@@ -216,67 +149,16 @@ impl fmt::Display for Fault<'_> {
                 Add the missing records or correct record 1.",
                 Announcement(announced)
             ),
-            Fault::ByteOrderMark => f.write_str(
-                "the file begins with a byte order mark, which editors do not show; \
-                save it as plain text, that is as ASCII or as UTF-8 without a byte order mark (BOM).",
-            ),
-            Fault::NotPlainText => f.write_str(
-                "the file is not plain text but UTF-16 or a program's own format (of a spreadsheet, say); \
-                save it as plain text, that is as ASCII or as UTF-8 without a byte order mark (BOM).",
-            ),
-            Fault::CarriageReturn => f.write_str(
-                "the record has a carriage return in it, as files from Windows or an old Mac have; \
-                save the file with Unix line ends (LF, a newline only).",
-            ),
-            Fault::NoNewline => f.write_str(
-                "no newline ends this record, the last of the file; \
-                if it is complete, press Enter behind it and save the file.",
-            ),
-            Fault::EmptyRecord => f.write_str(
-                "the record is empty; delete it. A network file has no empty records, not even at its end.",
-            ),
-            Fault::Space => f.write_str(
-                "the record begins with a space; delete it, so that the letter comes first.",
-            ),
-            Fault::Tab => f.write_str(
-                "the record begins with a tab; delete it, so that the letter comes first.",
-            ),
-            Fault::QuotationMark => f.write_str(
-                "the record begins with a quotation mark; write letters and numbers without quotation marks.",
-            ),
-            Fault::Comment { mark } => write!(
-                f,
-                "the record begins with {}; there are no comments in a network file, so delete the record.",
-                Quoted(&[mark])
-            ),
+            Fault::WrongText(wrong) => write!(f, "{wrong}"),
             Fault::NoCommas { kind } => write!(
                 f,
                 "there is no comma in the record; \
                 part its fields by commas, not by semicolons, tabs or spaces: {}.",
                 form(kind)
             ),
-            Fault::WrongKind(wrong) => write!(f, "{wrong}"),
-            Fault::NoLetter { field, due } => write!(
-                f,
-                "its first field is {} and must be the capital letter {} alone, since due here is {due}.",
-                Content(field),
-                due.kind().letter() as char
-            ),
-            Fault::WrongWidth { width, kind } => {
-                let due = kind.ranges().len();
-                let advice = if width < due {
-                    "Add what is missing."
-                } else {
-                    "Delete what is too much, or begin a new record with it; \
-                    a number has no commas in it, and no comma stands at the end."
-                };
-                write!(
-                    f,
-                    "it has {} behind the letter instead of {due}: {}. {advice}",
-                    Count(width as u64, "field"),
-                    form(kind)
-                )
-            }
+            Fault::WrongLetter(wrong) => write!(f, "{wrong}"),
+            Fault::WrongWidth(wrong) => write!(f, "{wrong}"),
+            Fault::SplitRecord(wrong) => write!(f, "{wrong}"),
             Fault::WrongField(wrong) => write!(f, "{wrong}"),
             Fault::WrongPlace(wrong) => write!(f, "{wrong}"),
         }

@@ -5,7 +5,7 @@ ghost use Rattle.std.specs.Prelude.{◌≡◌, ◌++◌, length, take, drop, min
 
 use std::fmt;
 
-// A byte of a file as a reader sees it: a printable character as it is, any other as `\x` and two hexadecimal digits.
+// A byte of a file as a reader sees it: a printable character as it is, a tab as `<tab>`, any other as `\x` and two hexadecimal digits.
 #[derive(Clone, Copy)]
 struct Byte(u8);
 
@@ -13,6 +13,7 @@ impl fmt::Display for Byte {
     fn fmt<W: fmt::Write>(&self, f: &mut fmt::Formatter<W>) -> fmt::Result {
         match self.0 {
             b' '..=b'~' => f.write_char(self.0 as char),
+            b'\t' => f.write_str("<tab>"),
             byte => write!(f, "\\x{byte:02x}"),
         }
     }
