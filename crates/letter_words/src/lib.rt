@@ -94,6 +94,7 @@ impl NoLetter<'_> {
             [letter, .., b'0'..=b'9'] if *letter == self.due.kind().letter() => {
                 " A comma is missing behind the letter, or another sign stands for one."
             }
+            [] => " Put the letter before the comma, or delete the record if it is a blank row.",
             [_] => "",
             _ => " If the record is a heading, a note or a blank row, delete it.",
         }
