@@ -96,6 +96,7 @@ impl<'a> Lent<'a> {
     pub fn put_bytes(&mut self, bytes: &[u8])
         ensures bytes { take self.new.taken self.new.buffer.now
             ≡ take (length self.old.buffer.now) (take self.old.taken self.old.buffer.now ++ bytes.now) }
+        ensures rest { drop self.new.taken self.new.buffer.now ≡ drop self.new.taken self.old.buffer.now }
         ensures room { length self.new.buffer.now ≡ length self.old.buffer.now }
     {
         let start = self.taken.min(self.buffer.len());
@@ -110,6 +111,7 @@ impl fmt::Write for Lent<'_> {
         ensures ok { IsOk result }
         ensures bytes { take self.new.taken self.new.buffer.now
             ≡ take (length self.old.buffer.now) (take self.old.taken self.old.buffer.now ++ text.now) }
+        ensures rest { drop self.new.taken self.new.buffer.now ≡ drop self.new.taken self.old.buffer.now }
         ensures room { length self.new.buffer.now ≡ length self.old.buffer.now }
     {
         self.put_bytes(text.as_bytes());
