@@ -212,7 +212,7 @@ pub fn printable(bytes: &[u8]) -> String {
     bytes.iter().map(shown).collect()
 }
 
-/// A difference between the two sides, or between the engine and demand 3, what the specification asks of the search.
+/// A difference between the two sides, or between the engine and the third demand, what the specification asks of Search.
 pub struct Difference {
     pub asked: Asked,
     pub second: String,
@@ -223,7 +223,7 @@ pub struct Difference {
 #[derive(Clone, Copy, PartialEq, Eq)]
 pub enum Against {
     Both,
-    /// Only what demand 3 says of Search's answer
+    /// Only what the third demand says of Search's answer
     Demand,
 }
 
@@ -297,7 +297,7 @@ impl<'a> Comparison<'a> {
             let members = engine.numbers[MARGIN..MARGIN + count].iter().map(|&m| m as usize).collect();
             let answered = Answer { finished: answer[0] == 1, members, total: answer[2], visits: answer[3] };
             if let Some(fault) = subsets::fault_of(network, &answered, allowed) {
-                return difference(format!("demand 3: {fault}"), shown(asked, &engine));
+                return difference(format!("the third demand: {fault}"), shown(asked, &engine));
             }
         }
         if self.against == Against::Demand {

@@ -223,12 +223,12 @@ fn compare(options: &Options) -> bool {
     found.is_none()
 }
 
-/// Each mistake in turn: against the engine, and whether demand 3 alone finds it in a search that makes it.
+/// Each mistake in turn: against the engine, and whether the third demand (`subsets`) alone finds it in a search that makes it.
 fn mutations(options: &Options) -> bool {
     let engine = engine(options);
     let rules = fixed::by_rule();
     let mut missed = 0;
-    println!("{:>3}  {:>7}  {:>8}  mistake", "no.", "files", "demand 3");
+    println!("{:>3}  {:>7}  {:>8}  mistake", "no.", "files", "demanded");
     for (i, (mistake, text)) in MISTAKES.iter().enumerate() {
         let second = Second::new(Some(*mistake));
         let mut comparison = Comparison::new(&second, &*engine, Against::Both);

@@ -168,7 +168,7 @@ mistakes! {
 }
 
 impl Mistake {
-    /// Whether it is a mistake in impact, the walk or the series rule, which demand 3 may show.
+    /// Whether it is a mistake in impact, the walk or the series rule, which the third demand may show.
     pub fn in_search(self) -> bool {
         let number = self as usize;
         number <= Mistake::SeriesIgnored as usize

@@ -1,4 +1,6 @@
-//! Demand 3 by trying every subset of the places.
+//! The specification's third demand, what it asks of Search, by trying every subset of the places: the answered set is allowed
+//! and has the answered total; a finished answer's total is the least of all allowed sets, and its set the first of these in
+//! dictionary order that has it; the visits are within the limit, and an answer is finished where the limit is enough.
 
 use crate::network::Network;
 use crate::walk::{self, Answer};
@@ -42,8 +44,8 @@ pub fn allowed_sets(network: &Network) -> Allowed {
     Allowed { count, least, first: first.iter().map(|p| p + 1).collect() }
 }
 
-/// What is wrong with an answer by demand 3. Where every subset was tried, `allowed` says what there is; else only the answered
-/// set is looked at.
+/// What is wrong with an answer by the third demand. Where every subset was tried, `allowed` says what there is; else only the
+/// answered set is looked at.
 pub fn fault_of(network: &Network, answer: &Answer, allowed: Option<&Allowed>) -> Option<String> {
     let rising = answer.members.windows(2).all(|w| w[0] < w[1]);
     let listed = answer.members.iter().all(|&m| (1..=network.file.places.len()).contains(&m));
