@@ -15,6 +15,22 @@ pub fn field_name(kind: Kind, field: usize) -> &'static str {
     kind_words::form(kind).split(',').nth(field).unwrap_or("")
 }
 
+// A field of a kind of record, as "field 3 behind the letter L (to)".
+#[derive(Clone, Copy, Debug, PartialEq, Eq)]
+pub struct Field {
+    pub kind: Kind,
+    pub field: usize,
+}
+
+impl fmt::Display for Field {
+    fn fmt<W: fmt::Write>(&self, f: &mut fmt::Formatter<W>) -> fmt::Result {
+        let Field { kind, field } = *self;
+        let letter = kind.letter() as char;
+        let name = field_name(kind, field);
+        write!(f, "field {field} behind the letter {letter} ({name})")
+    }
+}
+
 // What stands in a field.
 #[derive(Clone, Copy, Debug, PartialEq, Eq)]
 pub struct Content<'a>(pub &'a [u8]);
@@ -231,7 +247,7 @@ impl fmt::Display for WrongField<'_> {
             range,
             context,
         } = *self;
-        let name = field_name(kind, field);
+        let place = Field { kind, field };
         let limits = Limits {
             least: range.least,
             largest: ranges::largest_of(range.largest, context),
@@ -241,9 +257,6 @@ impl fmt::Display for WrongField<'_> {
             field,
             context,
         };
-        write!(
-            f,
-            "field {field} behind the letter ({name}) is {found}; {limits}{reason}."
-        )
+        write!(f, "{place} is {found}; {limits}{reason}.")
     }
 }

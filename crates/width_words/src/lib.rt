@@ -1,7 +1,7 @@
 // A record with too few or too many fields, or split in two, in words.
 #![tactic(auto)]
 
-use field_words::{Content, field_name};
+use field_words::{Content, Field, field_name};
 use file_parts::Record;
 use kind_words::{Count, form};
 use ranges::Kind;
@@ -115,12 +115,14 @@ impl SplitRecord {
 impl fmt::Display for SplitRecord {
     fn fmt<W: fmt::Write>(&self, f: &mut fmt::Formatter<W>) -> fmt::Result {
         let SplitRecord { kind, byte } = *self;
-        let last = kind.ranges().len();
+        let last = Field {
+            kind,
+            field: kind.ranges().len(),
+        };
+        let next = NextBegins(byte);
         write!(
             f,
-            "field {last} behind the letter ({}) is empty; write what is missing, or join the record with {}.",
-            field_name(kind, last),
-            NextBegins(byte)
+            "{last} is empty; write what is missing, or join the record with {next}."
         )
     }
 }
