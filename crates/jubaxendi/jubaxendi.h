@@ -45,7 +45,7 @@ uint64_t jubaxendi_check(const uint8_t *file, size_t file_length, uint64_t answe
 /* Impact: answer[0] customers are cut off by a fault on the line, which is counted from 1. */
 uint64_t jubaxendi_impact(const uint8_t *file, size_t file_length, uint64_t line, uint64_t answer[8]);
 
-/* Total: answer[0] is the outage total, answer[1] the SAIDI figure, minutes times the total. */
+/* Total: answer[0] is the outage total, in customer interruptions a year * 1,000,000, answer[1] the figure, minutes times the total. */
 uint64_t jubaxendi_total(const uint8_t *file, size_t file_length, uint64_t answer[8]);
 
 /*

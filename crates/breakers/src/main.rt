@@ -5,8 +5,8 @@
 ghost use Rattle.std.specs.Prelude.{◌≤◌};
 
 use explanations::Explanation;
-use model::{Command, Refusal, Request};
-use printing::Failure;
+use model::{Command, Misuse, Refusal, Request};
+use printing::{Failure, Served};
 use std::env::{Env, FillError};
 use std::fmt::{Display, Write};
 use std::fs::File;
@@ -14,6 +14,13 @@ use std::io::{ErrorKind, IsTerminal, Read};
 use std::{io, str};
 use usage::Complaint;
 use words::{Lent, Name};
+
+// The first three words behind the program's name, empty where there is none, and what they ask for.
+#[derive(Clone, Copy)]
+struct Words<'a> {
+    all: [&'a [u8]; 3],
+    asked: Result<Request, Misuse>,
+}
 
 // Writes a text, what does not fit into 20,000 bytes left out, by one write. This buffer and those below are
 // fixed memory, so that none can be refused.
@@ -63,37 +70,46 @@ fn explain(rt: &HostRuntime, command: Command, file: &[u8], refusal: Refusal) {
     let _ = write_text(&rt.stderr(), &explanation);
 }
 
-// Prints what ceiling answers, which reads no file, and says why if it is a refusal.
-fn run_alone(rt: &HostRuntime, command: Command) {
-    match printing::print(command, &[], &mut rt.stdout()) {
-        Ok(None) => {}
-        Ok(Some(refusal)) => explain(rt, command, &[], refusal),
-        Err(e) => fail(rt, &"standard output", e),
-    }
+// Says on standard error how the words are wrong.
+fn complain(rt: &HostRuntime, misuse: Misuse, words: [&[u8]; 3]) {
+    let _ = write_text(&rt.stderr(), &Complaint { misuse, words });
 }
 
-// Reads a file to its end and prints what a command answers for it. Says why it is refused, or that it cannot be read or printed.
-fn run<F: Read>(rt: &HostRuntime, command: Command, from: &mut F, name: &impl Display) {
+// Carries out what the words ask for, with the file that `from` gives: prints the answer, and says why it is refused, how the words are
+// wrong, or what cannot be read or written.
+fn serve<F: Read>(rt: &HostRuntime, words: Words<'_>, from: &mut F, name: &impl Display) {
     let mut file = [0; input::ROOM];
-    match printing::run(command, from, &mut file, &mut rt.stdout()) {
-        Ok(printed) => {
+    let help = usage::HELP.as_bytes();
+    let version = usage::VERSION.as_bytes();
+    let served = printing::serve(
+        words.asked,
+        help,
+        version,
+        from,
+        &mut file,
+        &mut rt.stdout(),
+    );
+    match served {
+        Ok(Served::Answered { command, printed }) => {
             if let Some(refusal) = printed.refusal {
                 explain(rt, command, &file[..printed.bytes], refusal);
             }
         }
+        Ok(Served::Told) => {}
+        Ok(Served::Misused(misuse)) => complain(rt, misuse, words.all),
         Err(Failure::Read(e)) => fail(rt, name, e),
         Err(Failure::Write(e)) => fail(rt, &"standard output", e),
     }
 }
 
-// Prints what a command answers for the file of standard input.
-fn run_input(rt: &HostRuntime, command: Command) {
+// Carries out what the words ask for, with the file of standard input.
+fn serve_input(rt: &HostRuntime, words: Words<'_>) {
     if IsTerminal::is_terminal(&rt.stdin()) {
         let _ = rt.eprintln(
             "breakers: reading a network file from standard input (Ctrl-D ends it; breakers help says more)",
         );
     }
-    run(rt, command, &mut rt.stdin(), &"standard input");
+    serve(rt, words, &mut rt.stdin(), &"standard input");
 }
 
 // The system's number for a name that is too long.
@@ -113,11 +129,13 @@ fn open(rt: &HostRuntime, path: &[u8]) -> io::Result<File> {
     }
 }
 
-// Prints what a command answers for the file that a word names. The first word may have been meant as a command.
-fn run_file(rt: &HostRuntime, command: Command, path: &[u8], word: usize) {
+// Carries out what the words ask for, with the file that one of them names. The first may have been meant as a command.
+fn serve_file(rt: &HostRuntime, words: Words<'_>, word: usize) {
+    let [first, second, third] = words.all;
+    let path = arguments::word_at(word, first, second, third);
     let name = Name(path);
     match open(rt, path) {
-        Ok(mut file) => run(rt, command, &mut file, &name),
+        Ok(mut file) => serve(rt, words, &mut file, &name),
         Err(e) if word == 1 => {
             let start =
                 "breakers: no command (breakers help lists them), and no file that can be read: ";
@@ -127,24 +145,9 @@ fn run_file(rt: &HostRuntime, command: Command, path: &[u8], word: usize) {
     }
 }
 
-// Carries out a command on the file that a word names, or on standard input.
-fn carry_out(rt: &HostRuntime, command: Command, file: Option<usize>, words: [&[u8]; 3]) {
-    let [first, second, third] = words;
-    match (command, file) {
-        (Command::Ceiling { .. }, _) => run_alone(rt, command),
-        (_, None) => run_input(rt, command),
-        (_, Some(word)) => {
-            let path = arguments::word_at(word, first, second, third);
-            run_file(rt, command, path, word);
-        }
-    }
-}
-
-// Prints a text, or says that it cannot be printed.
-fn print_text(rt: &HostRuntime, text: &str) {
-    if let Err(e) = rt.write_all(text.as_bytes()) {
-        fail(rt, &"standard output", e);
-    }
+// Carries out what the words ask for, where that takes no file.
+fn serve_alone(rt: &HostRuntime, words: Words<'_>) {
+    serve(rt, words, &mut io::empty(), &"no file");
 }
 
 // A word behind the program's name, in a buffer, which one that does not fit fills; empty where there is none. A `String` would take
@@ -171,19 +174,29 @@ fn main(rt: HostRuntime) {
     let mut first = [0; 4096];
     let mut second = [0; 4096];
     let mut third = [0; 4096];
-    let words = [
+    let all = [
         fetch(&rt, 1, &mut first),
         fetch(&rt, 2, &mut second),
         fetch(&rt, 3, &mut third),
     ];
     // Four words are too many, whatever follows.
     let count = word_count(&rt, 4);
-    match arguments::request(count, words[0], words[1], words[2]) {
-        Ok(Request::Ask { command, file }) => carry_out(&rt, command, file, words),
-        Ok(Request::Help) => print_text(&rt, usage::HELP),
-        Ok(Request::Version) => print_text(&rt, usage::VERSION),
-        Err(misuse) => {
-            let _ = write_text(&rt.stderr(), &Complaint { misuse, words });
-        }
+    let asked = arguments::request(count, all[0], all[1], all[2]);
+    let words = Words { all, asked };
+    match asked {
+        Ok(
+            Request::Ask {
+                file: Some(word),
+                ..
+            },
+        ) => serve_file(&rt, words, word),
+        Ok(
+            Request::Ask {
+                command: Command::Ceiling { .. },
+                ..
+            },
+        ) => serve_alone(&rt, words),
+        Ok(Request::Ask { .. }) => serve_input(&rt, words),
+        _ => serve_alone(&rt, words),
     }
 }

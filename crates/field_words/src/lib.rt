@@ -155,13 +155,17 @@ impl fmt::Display for Reason {
         match (self.kind, self.field) {
             (Kind::Station, 1) => f.write_str(": 0 for an MV station, 1 for an HV station"),
             (Kind::Station, _) if first == 1 => {
-                f.write_str(", since an HV station (role 1) has no customers")
+                f.write_str(
+                    ", since an HV station (role 1) has no customers; \
+                if it is an MV station, keep them and write role 0",
+                )
             }
             (Kind::Line, 1) => f.write_str(" millionths of a failure a year"),
             (Kind::Line, 2 | 3) => {
                 write!(
                     f,
-                    ", since record 1 announces {}",
+                    ", since record 1 announces {}; \
+                    a station put in or taken out changes the numbers of all later ones",
                     Count(stations, "station")
                 )
             }
@@ -171,7 +175,12 @@ impl fmt::Display for Reason {
             (Kind::Place, 1) if lines == 0 => f.write_str(
                 ", since record 1 announces 0 lines, and without lines there are no places",
             ),
-            (Kind::Place, 1) => write!(f, ", since record 1 announces {}", Count(lines, "line")),
+            (Kind::Place, 1) => write!(
+                f,
+                ", since record 1 announces {}; \
+                a line put in or taken out changes the numbers of all later ones",
+                Count(lines, "line")
+            ),
             (Kind::Place, 2) => f.write_str(
                 ": 1 for the end at the line's station from, 2 for the end at its station to",
             ),

@@ -29,13 +29,15 @@ impl WrongKind {
             }
             (Kind::Head, _) => " A file has one N record, its first.",
             (_, Due::Station { .. }) => {
-                " A station is missing before it, or record 1 announces too many."
+                " A station is missing before it, not necessarily just before it, or record 1 announces too many."
             }
-            (Kind::Station, _) => " There is a station too many, or record 1 announces too few.",
+            (Kind::Station, _) =>
+                " A station is too many (perhaps a copy), not necessarily this one, or record 1 announces too few.",
             (_, Due::Line { .. }) => {
-                " A line is missing before it, or record 1 announces too many."
+                " A line is missing before it, not necessarily just before it, or record 1 announces too many."
             }
-            _ => " There is a line too many, or record 1 announces too few.",
+            _ =>
+                " A line is too many (perhaps a copy), not necessarily the last, or record 1 announces too few.",
         }
     }
 
@@ -77,6 +79,8 @@ impl fmt::Display for WrongKind {
 struct NoLetter<'a> {
     field: &'a [u8],
     due: Due,
+    // whether the letter follows, at the end of the field or as the next one
+    letter_follows: bool,
 }
 
 impl NoLetter<'_> {
@@ -85,6 +89,9 @@ impl NoLetter<'_> {
         if !field_words::only_ascii(self.field) {
             return " It has characters that are not plain ASCII (shown as \\x..), though they may look like letters, \
                 commas or spaces or be invisible: type the record again, or delete it if it is a heading or a note.";
+        }
+        if self.letter_follows {
+            return " Delete what stands before the letter; a record has no number of its own.";
         }
         match self.field {
             [b'0'..=b'9', ..] if self.due == Due::Head => " Put the letter before it.",
@@ -175,7 +182,15 @@ impl<'a> WrongLetter<'a> {
                 has_due_width: record.width() == due.kind().ranges().len(),
                 is_unordered: is_unordered(file),
             }))),
-            None => Some(WrongLetter(Fault::None(NoLetter { field, due }))),
+            None => {
+                let letter = [due.kind().letter()];
+                Some(WrongLetter(Fault::None(NoLetter {
+                    field,
+                    due,
+                    letter_follows: field.ends_with(&letter)
+                        || record.field(1) == letter.as_slice(),
+                })))
+            }
         }
     }
 }

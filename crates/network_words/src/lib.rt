@@ -18,7 +18,7 @@ enum Fault<'a> {
     PlainAtHv {
         end: EndName,
         station: StationName,
-        other_is_open: bool,
+        other: State,
     },
     // both ends of a line are closed at one station
     Loop {
@@ -67,7 +67,7 @@ fn plain_end(network: &Network, number: usize, side: Side) -> Option<Fault<'_>> 
             line: LineName::find(network, number)?,
         },
         station: StationName::find(network, station)?,
-        other_is_open: line.state(side.other()) == State::Open,
+        other: line.state(side.other()),
     })
 }
 
@@ -130,12 +130,16 @@ impl fmt::Display for Fault<'_> {
             Fault::PlainAtHv {
                 end,
                 station,
-                other_is_open,
+                other,
             } => {
-                let opening = if *other_is_open {
-                    ""
-                } else {
-                    ", or open it (state 2)"
+                let opening = match other {
+                    State::Open => "",
+                    State::Plain | State::Breaker => ", or open it (state 2)",
+                };
+                let turning = match other {
+                    State::Breaker =>
+                        " If the line is written the wrong way round, exchange from and to.",
+                    State::Plain | State::Open => "",
                 };
                 let field = match end.side {
                     Side::One => "from",
@@ -145,7 +149,8 @@ impl fmt::Display for Fault<'_> {
                 write!(
                     f,
                     "{end} is plain (state 0) at HV {station}: make it a breaker (state 1){opening}, \
-                     or correct the station ({field}), or the role of station {number} if it is no HV station."
+                     or correct the station ({field}), or the role of station {number} if it is no HV station.{turning} \
+                     A station put in or taken out changes the numbers of all later ones, in the L records too."
                 )
             }
             Fault::Loop { line, station } => write!(
@@ -156,8 +161,8 @@ impl fmt::Display for Fault<'_> {
             Fault::Ring(names) => {
                 // a ring of two lines has them between the same stations
                 let deleting = if names.lines.len() == 2 {
-                    ", or delete one of them if it is there twice and count one line less in record 1 \
-                     (later lines then have numbers one lower, in P records too)"
+                    ", or delete one of them if it is there twice, count one line less in record 1, \
+                     and look whether each P record names the line that it should"
                 } else {
                     ""
                 };

@@ -120,17 +120,17 @@ impl fmt::Display for WrongPlace {
             Fault::Twice { end } => write!(
                 f,
                 "it names {end}, as the record before it does: correct the line or end of one of the two \
-                (lines may have been put in, taken out or swapped), or delete one."
+                (if lines were put in, taken out or swapped, those of other places too), or delete one."
             ),
             Fault::Unsorted { end, before } => write!(
                 f,
                 "it names {end}, but the record before it names {before}: correct the line or end of one of the two \
-                (lines may have been put in, taken out or swapped), or sort the places by line, then by end."
+                (if lines were put in, taken out or swapped, those of other places too), or sort the places by line, then by end."
             ),
             Fault::NotPlain { end, taken, record } => write!(
                 f,
                 "it names {end}, which {taken} (state{} of record {record}): correct its line or end \
-                (lines may have been put in, taken out or swapped), correct that record, or delete this place.",
+                (if lines were put in, taken out or swapped, those of other places too), correct that record, or delete this place.",
                 end.side.number()
             ),
         }

@@ -8,3 +8,8 @@ use Rattle.printing.specs.declared.Failure.{Failure}
 abbrev pub Failed : Failure → Option (List ℕ) → Option (List ℕ) → Option (List ℕ) → List ℕ → Type 0
 Failed (Failure.Read e) known old new buffer = Keeps old new
 Failed (Failure.Write e) known old new buffer = (n : ℕ) × ReadsAll known (length buffer) (take n buffer)
+
+-- where a file could not be read nothing is written
+abbrev pub Unread : Failure → Option (List ℕ) → Option (List ℕ) → Type 0
+Unread (Failure.Read e) old new = Keeps old new
+Unread (Failure.Write e) old new = Unit {0}

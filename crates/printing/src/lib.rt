@@ -8,9 +8,11 @@ ghost use Rattle.std.specs.Io.KnownBytes.{Appends};
 ghost use Rattle.model.specs.Commands.{prints, commanded};
 ghost use Rattle.input.specs.Reading.{ReadsAll};
 ghost use Rattle.commands.specs.Told.{Told};
-ghost use Rattle.printing.specs.Failing.{Failed};
+ghost use Rattle.printing.specs.declared.Served.{Served};
+ghost use Rattle.printing.specs.Asked.{text_of, Answers};
+ghost use Rattle.printing.specs.Failing.{Failed, Unread};
 
-use model::{Command, Refusal};
+use model::{Command, Misuse, Refusal, Request};
 use std::io;
 use std::io::{Read, Write};
 
@@ -60,5 +62,57 @@ pub fn run<R: Read, W: Write>(
             Err(e) => Err(Failure::Write(e)),
             Ok(refusal) => Ok(Printed { bytes, refusal }),
         },
+    }
+}
+
+// What came of what the words behind the program's name ask for.
+#[derive(Clone, Copy, Debug, PartialEq, Eq)]
+pub enum Served {
+    // what a command answers is printed
+    Answered { command: Command, printed: Printed },
+    // the help or the version is printed
+    Told,
+    // nothing is printed, since the words are wrong
+    Misused(Misuse),
+}
+
+// Prints a text of the program's own.
+fn tell<W: Write>(text: &[u8], to: &mut W) -> Result<Served, Failure>
+    ensures printed { OnOk result (Appends (W.contents to.old) (W.contents to.new) text.now) }
+    ensures told { IfOk result (λ served. served ≡ Served.Told) }
+    ensures unread { IfErr result (λ e. Unread e (W.contents to.old) (W.contents to.new)) }
+{
+    match to.write_all(text) {
+        Ok(()) => Ok(Served::Told),
+        Err(e) => Err(Failure::Write(e)),
+    }
+}
+
+// Carries out what the words behind the program's name ask for: prints what a command answers for the file that `from` gives, or the help,
+// or the version, or nothing where the words are wrong.
+pub fn serve<R: Read, W: Write>(
+    asked: Result<Request, Misuse>,
+    help: &[u8],
+    version: &[u8],
+    from: &mut R,
+    file: &mut [u8],
+    to: &mut W,
+) -> Result<Served, Failure>
+    requires { length file.old ≡ 32769 }
+    ensures printed { OnOk result (IfSome (R.remaining from.old)
+        (λ bytes. Appends (W.contents to.old) (W.contents to.new) (text_of asked help.now version.now bytes))) }
+    ensures answered { IfOk result (λ served. Answers served (R.remaining from.old) file.new) }
+    ensures unread { IfErr result (λ e. Unread e (W.contents to.old) (W.contents to.new)) }
+{
+    match asked {
+        Err(misuse) => Ok(Served::Misused(misuse)),
+        Ok(Request::Help) => tell(help, to),
+        Ok(Request::Version) => tell(version, to),
+        Ok(Request::Ask { command, .. }) => {
+            match run(command, from, file, to) {
+                Ok(printed) => Ok(Served::Answered { command, printed }),
+                Err(failure) => Err(failure),
+            }
+        }
     }
 }

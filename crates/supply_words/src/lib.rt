@@ -203,7 +203,7 @@ impl fmt::Display for Unsupplied<'_> {
                     f,
                     "{station} has no closed path to an HV station{joined}{dead_end}. \
                      Either a line that should feed {them} is missing or ends at a wrong station (from or to): \
-                     add or correct it.{exits} \
+                     add it, a lost one where it was, or correct it.{exits} \
                      Or {one} is a substation: give it role 1 and no customers in its S record."
                 )
             }

@@ -131,7 +131,8 @@ impl<'a> WrongText<'a> {
             }
             WrongText::CarriageReturn => {
                 "the record has a carriage return in it, as files from Windows or an old Mac have; \
-                save the file with Unix line ends (LF, a newline only)."
+                save the file with Unix line ends (LF, a newline only); \
+                docs/FORMAT.md says how, also for a spreadsheet's file."
             }
             WrongText::Blank =>
                 "the record has only spaces or tabs in it; delete the whole record.",
@@ -188,7 +189,7 @@ impl fmt::Display for WrongText<'_> {
             ),
             WrongText::Comment { mark } => write!(
                 f,
-                " {}; there are no comments in a network file, so delete the record.",
+                " {}; delete that sign if a record stands behind it, and the whole record if it is a comment: a network file has none.",
                 Quoted(&[mark])
             ),
             _ => Ok(()),

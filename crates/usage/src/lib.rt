@@ -15,7 +15,7 @@ pub const HELP: &str = "usage: breakers [COMMAND [NUMBERS]] [FILE]\n\
     a letter and numbers. A file that is refused gives X,number,record on standard\n\
     output and the reason in words on standard error.\n\
     \n\
-    report    the default: A and C and B rows as below, and F,line,impact,weight x impact\n\
+    report    the default: A as below, F,line,impact,weight x impact of each line, C and B\n\
     check     K if the file is accepted\n\
     impact LINE\n\
     \x20         I,line,customers that a fault on the line cuts off\n\

@@ -144,7 +144,7 @@ impl fmt::Display for WrongWidth<'_> {
         match advice {
             Advice::Delete => f.write_str(
                 "Delete what is too much, or begin a new record with it; \
-                a number has no commas in it, and no comma stands at the end.",
+                a number has no commas in it, no comma stands at the end, and a record has no number of its own.",
             ),
             Advice::Part { field, content } => write!(
                 f,

@@ -200,7 +200,7 @@ impl Lines {
         // Lines between the same two stations may be one line, there twice.
         let copied = named.len() == 2 && stations[1].iter().all(|s| stations[0].contains(s));
         let what = if copied && self.wrong != Some(WordsNoCopy) {
-            ", or delete one of them if it is there twice and count one line less in record 1 (later lines then have numbers one lower, in P records too)"
+            ", or delete one of them if it is there twice, count one line less in record 1, and look whether each P record names the line that it should"
         } else {
             ""
         };
@@ -293,7 +293,7 @@ impl Lines {
             String::new()
         };
         let line = format!(
-            "Either a line that should feed {them} is missing or ends at a wrong station (from or to): add or correct it."
+            "Either a line that should feed {them} is missing or ends at a wrong station (from or to): add it, a lost one where it was, or correct it."
         );
         let substation = format!("Or {one} is a substation: give it role 1 and no customers in its S record");
         Some(format!("{no_path}{nor}{dead_end}. {line}{way} {substation}"))

@@ -1,0 +1,23 @@
+-- What comes of what the words behind the program's name ask for.
+use Rattle.std.specs.Prelude.{ℕ, ◌≤◌, List, [], Option, Result, Ok, Err, length, take}
+use Rattle.model.specs.Commands.{prints, commanded}
+use Rattle.model.specs.declared.Request.{Request}
+use Rattle.model.specs.declared.Misuse.{Misuse}
+use Rattle.input.specs.Reading.{ReadsAll}
+use Rattle.commands.specs.Told.{Told}
+use Rattle.printing.specs.declared.Served.{Served}
+
+-- the text: what a command prints of a file, the help, the version; nothing where the words are wrong
+abbrev pub text_of : Result Request Misuse → (help version file : List ℕ) → List ℕ
+text_of (Ok (Request.Ask command word)) help version file = prints command file
+text_of (Ok Request.Help) help version file = help
+text_of (Ok Request.Version) help version file = version
+text_of (Err misuse) help version file = []
+
+-- the buffer begins with the file, and the refusal of that is told; what was known of the file stands first
+abbrev pub Answers : Served → Option (List ℕ) → List ℕ → Type 0
+Answers (Served.Answered command printed) known buffer =
+    (printed.bytes ≤ length buffer) × ReadsAll known (length buffer) (take printed.bytes buffer)
+    × Told printed.refusal (commanded command (take printed.bytes buffer))
+Answers Served.Told known buffer = Unit {0}
+Answers (Served.Misused misuse) known buffer = Unit {0}
