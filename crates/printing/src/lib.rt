@@ -10,7 +10,7 @@ ghost use Rattle.input.specs.Reading.{ReadsAll};
 ghost use Rattle.commands.specs.Told.{Told};
 ghost use Rattle.printing.specs.declared.Served.{Served};
 ghost use Rattle.printing.specs.Asked.{text_of, Answers};
-ghost use Rattle.printing.specs.Failing.{Failed, Unread};
+ghost use Rattle.printing.specs.Failing.{Failed, IsWrite, Fails};
 
 use model::{Command, Misuse, Refusal, Request};
 use std::io;
@@ -80,7 +80,7 @@ pub enum Served {
 fn tell<W: Write>(text: &[u8], to: &mut W) -> Result<Served, Failure>
     ensures printed { OnOk result (Appends (W.contents to.old) (W.contents to.new) text.now) }
     ensures told { IfOk result (λ served. served ≡ Served.Told) }
-    ensures unread { IfErr result (λ e. Unread e (W.contents to.old) (W.contents to.new)) }
+    ensures failed { IfErr result IsWrite }
 {
     match to.write_all(text) {
         Ok(()) => Ok(Served::Told),
@@ -101,8 +101,9 @@ pub fn serve<R: Read, W: Write>(
     requires { length file.old ≡ 32769 }
     ensures printed { OnOk result (IfSome (R.remaining from.old)
         (λ bytes. Appends (W.contents to.old) (W.contents to.new) (text_of asked help.now version.now bytes))) }
-    ensures answered { IfOk result (λ served. Answers served (R.remaining from.old) file.new) }
-    ensures unread { IfErr result (λ e. Unread e (W.contents to.old) (W.contents to.new)) }
+    ensures answered { IfOk result (λ served. Answers served asked (R.remaining from.old) file.new) }
+    ensures failed { IfErr result
+        (λ e. Fails asked e (R.remaining from.old) (W.contents to.old) (W.contents to.new) file.new) }
 {
     match asked {
         Err(misuse) => Ok(Served::Misused(misuse)),
