@@ -1,5 +1,5 @@
 -- Inserting into a list in falling order: before the first number that is no greater.
-use Prim.Native.Nat.{ℕ, suc, ◌+◌}
+use Prim.Native.Nat.{ℕ, zero, suc, ◌+◌, ◌≤◌}
 use mathlib.Core.Path.{◌≡◌, refl, ap, ◌∙◌}
 use mathlib.Core.Bool.{Bool, true, false, cond, not}
 use mathlib.Core.List.{List, [], ◌∷◌, ◌++◌}
@@ -38,3 +38,14 @@ inserted_there x (y ∷ ys) = go (leb y x) refl (inserted_there x ys)
 
 pub inserted : (x : ℕ) (ys : List ℕ) {found : Option ℕ} {at : ℕ} → found ≡ cond (ltb (place x ys) (length ys)) (Some (place x ys)) None → at ≡ unwrap_or found (length ys) → take at ys ++ x ∷ drop at ys ≡ insert x ys
 inserted x ys f e = ap (λ i. take i ys ++ x ∷ drop i ys) (e ∙ ap (λ r. unwrap_or r (length ys)) f ∙ place_is x ys) ∙ inserted_there x ys
+
+-- it is inserted within the list or behind it
+pub within : (x : ℕ) (ys : List ℕ) {found : Option ℕ} {at : ℕ} → found ≡ cond (ltb (place x ys) (length ys)) (Some (place x ys)) None → at ≡ unwrap_or found (length ys) → at ≤ length ys
+within x ys f e = omega (arith, e ∙ ap (λ r. unwrap_or r (length ys)) f ∙ place_is x ys, prefix_len-le-length (λ y. not (leb y x)) ys)
+
+-- behind all numbers it is the last
+pub behind_all : (xs : List ℕ) (i x : ℕ) → i ≡ length xs → take i xs ++ x ∷ drop i xs ≡ xs ++ x ∷ []
+behind_all [] zero x e = refl
+behind_all [] (suc i) x e = absurd (omega (arith, e))
+behind_all (y ∷ ys) zero x e = absurd (omega (arith, e))
+behind_all (y ∷ ys) (suc i) x e = ap (λ zs. y ∷ zs) (behind_all ys i x (omega (arith, e)))

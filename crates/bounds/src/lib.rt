@@ -25,7 +25,14 @@ fn insert_falling(list: &mut ArrayVec<u64, 64>, saving: u64)
         .iter()
         .position(|held| *held <= saving)
         .unwrap_or(list.len());
-    list.insert(at, saving);
+    // by index: the library's `insert` would have the archive for C ask for `memmove`
+    let mut next = saving;
+    for i in at..list.len() {
+        let held = list[i];
+        list[i] = next;
+        next = held;
+    }
+    list.push(next);
 }
 
 impl Bounds {

@@ -1,4 +1,5 @@
 -- What a search is based on, and what it found.
+use Rattle.std.specs.Prelude.{ℕ, ◌≡◌}
 use Rattle.model.specs.Network.{Network}
 use Rattle.model.specs.Walk.{Found}
 use Rattle.theory.specs.Best.{Accepted}
@@ -19,3 +20,7 @@ pub record HoldsBasis (N : Network) (t : Tree) (p : Paths) (b : Behind) : Type 0
 
 abbrev pub plan_found : Plan → Found
 plan_found p = record { members = p.members.items; best = p.total.0; visits = p.visits; spent = p.spent }
+
+-- what was found, with its total as a number
+pub found-is : (p : Plan) {total : ℕ} → total ≡ p.total.0 → ◌≡◌ {A = Found} (record { members = p.members.items; best = total; visits = p.visits; spent = p.spent }) (plan_found p)
+found-is p t = λ i. record { members = p.members.items; best = t i; visits = p.visits; spent = p.spent }

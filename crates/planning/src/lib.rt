@@ -15,7 +15,6 @@ ghost use Rattle.relations.specs.Related.{HoldsRelations, HoldsLater};
 ghost use Rattle.planning.specs.Planned.{HoldsBasis, plan_found};
 
 use amounts::Total;
-use arrayvec::ArrayVec;
 use bounds::Bounds;
 use loading::Loaded;
 use marks::Marks;
@@ -25,15 +24,15 @@ use outage::{Behind, Impacts};
 use paths::{Firsts, Paths};
 use prospects::Tables;
 use relations::{Relations, Routes};
-use search::{Course, Walk};
+use search::{Course, Members, Walk};
 use starts::Outlook;
 use tree::Tree;
 
 // What a search found: the best set's total and its members, the visits, and whether the search is spent.
-#[derive(Drop)]
+#[derive(Clone, Copy)]
 pub struct Plan {
     pub total: Total,
-    pub members: ArrayVec<usize, 16>,
+    pub members: Members,
     pub visits: u64,
     pub spent: bool,
 }

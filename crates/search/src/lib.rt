@@ -19,11 +19,15 @@ use bounds::Bounds;
 use network::Network;
 use prospects::{Choice, Prospects, Tables};
 
+mod members;
+
+pub use members::Members;
+
 // How far a walk has come: the members of the best set, how much it saves of the file's total, the visits, and whether the walk is
 // spent.
-#[derive(Drop)]
+#[derive(Clone, Copy)]
 pub struct Progress {
-    pub best: ArrayVec<usize, 16>,
+    pub best: Members,
     pub saved: Total,
     pub visits: u64,
     pub spent: bool,
@@ -35,7 +39,7 @@ impl Progress {
         ensures { Begun result }
     {
         Progress {
-            best: ArrayVec::new(),
+            best: Members::new(),
             saved: Total::ZERO,
             visits: 0,
             spent: false,
@@ -89,12 +93,11 @@ impl Course {
 }
 
 // Makes a list of members another's copy.
-fn copy_members(members: &[usize], copy: &mut ArrayVec<usize, 16>)
+fn copy_members(members: &[usize], copy: &mut Members)
     requires { length members.now ≤ 16 }
     ensures { copy.new.items ≡ members.now }
 {
-    copy.clear();
-    let _ = copy.try_extend_from_slice(members);
+    *copy = Members::of(members);
 }
 
 // Whether a set saves less than another.
@@ -276,13 +279,12 @@ impl<'a> Walk<'a> {
     {
         // a copy, so that what is read stays at hand through the loop
         let walk = *self;
-        for place in from..walk.tables.net.place_count() + 1 {
-            if !walk.goes_on(&course.progress, current.saved, place, left) {
-                return None;
-            }
+        let mut place = from;
+        while walk.goes_on(&course.progress, current.saved, place, left) {
             if course.may_get(&walk.tables, current, pending, place) {
                 return Some(place);
             }
+            place += 1;
         }
         None
     }
