@@ -32,6 +32,15 @@ impl Ends {
         }
     }
 
+    // Counts an end at a station no more.
+    fn take(&mut self, station: usize) {
+        if let Some(index) = station.checked_sub(1)
+            && let Some(count) = self.counts.get_mut(index)
+        {
+            *count = count.saturating_sub(1);
+        }
+    }
+
     // Whether only one end is at a station.
     fn is_tip(&self, station: usize) -> bool {
         station
@@ -57,19 +66,27 @@ fn without_tips<F: Fn(usize) -> bool>(network: &Network, last: usize, is_kept: F
     requires { F.IsAlwaysCallable is_kept }
 {
     let mut lines = joining_lines(network, last);
-    // each round but the last takes a line away
+    let mut ends = Ends::of(network, &lines);
+    let mut taken = LineSet::empty();
+    // Each round but the last takes a line away. Its ends are counted no more at once, so that a branch whose lines are numbered from its
+    // tip is gone after one round.
     for _ in 0..768 {
-        let ends = Ends::of(network, &lines);
-        let is_tip = |station| ends.is_tip(station) && !is_kept(station);
-        let count = lines.len();
-        lines.retain(|number| {
-            lookups::line(network, number).is_some_and(|line| !is_tip(line.from)
-                && !is_tip(line.to))
-        });
-        if lines.len() == count {
+        let mut found = false;
+        for (number, line) in (1..).zip(network.lines()) {
+            let is_left = lines.contains(number) && !taken.contains(number);
+            let is_tip = |station| ends.is_tip(station) && !is_kept(station);
+            if is_left && (is_tip(line.from) || is_tip(line.to)) {
+                taken.insert(number);
+                ends.take(line.from);
+                ends.take(line.to);
+                found = true;
+            }
+        }
+        if !found {
             break;
         }
     }
+    lines.retain(|number| !taken.contains(number));
     lines
 }
 
