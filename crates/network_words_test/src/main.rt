@@ -50,13 +50,21 @@ fn show(rt: &impl Print, file: &[u8]) -> io::Result<()> {
     }
 }
 
-// What is said of each file of the input. A function of all test programs would take a closure and stand
-// in a crate of its own: that is no plainer.
+// What is said of each file of the input. One ends before '=', behind which one more byte is passed over; the last may end with the
+// input. A function of all test programs would take a closure and stand in a crate of its own: that is no plainer.
 fn show_files(rt: &impl Print, input: &[u8]) -> io::Result<()> {
-    for part in input.split_inclusive(|&byte| byte == b'=') {
-        if let [b'\n', file @ .., b'='] | [file @ .., b'='] = part {
-            show(rt, file)?;
-        }
+    let mut rest = input;
+    while !rest.is_empty() {
+        let end = rest
+            .iter()
+            .position(|&byte| byte == b'=')
+            .unwrap_or(rest.len());
+        let (file, after) = rest.split_at(end);
+        show(rt, file)?;
+        rest = match after {
+            [_, _, more @ ..] => more,
+            _ => &[],
+        };
     }
     Ok(())
 }
