@@ -2,13 +2,13 @@
 use Rattle.std.specs.Prelude.{ℕ, ◌+◌, ◌≤◌, ◌<◌, ◌≡◌, refl, Bool, true, false, ◌≢◌, List, length, get_or, set}
 use Rattle.std.specs.Coded.{×_prop, le_prop, Coded-set, coded_bool}
 use mathlib.Core.HLevel.{⊥_prop}
-use Rattle.std.proofs.Math.Logic.{∥∥₁_elim}
+use mathlib.Core.Logic.{∥∥₁_elim, ∥∥₁_map}
 use Rattle.std.proofs.Common.{sym, ap, ◌∙◌, subst, true≢false, arith, length-set, get_or-set_same, get_or-set_other}
 use Rattle.std.proofs.Math.Decide.{ℕ_discrete, dec_lt}
 use Rattle.model.specs.Network.{Network}
 use Rattle.model.specs.Paths.{is_hv}
 use Rattle.model.specs.Rules.{some_joined, is_supplied}
-use Rattle.graphs.specs.Labels.{relabel}
+use Rattle.graphs.specs.Labels.{relabel, relabel-same, relabel-other}
 use Rattle.theory.specs.Reading.{Read}
 use Rattle.network.specs.There.{StationThere}
 use Rattle.theory.specs.Labels.{label_of, Labelled, hv-in, labelled-joined, labelled-supplied}
@@ -33,6 +33,24 @@ number_step labels i l h k b = go (ℕ_discrete k i)
 pub record Renamed (x y i : ℕ) (before labels : List ℕ) : Type 0 where
   pub done : (k : ℕ) → k < i → get_or labels k 0 ≡ relabel x y (get_or before k 0)
   pub left : (k : ℕ) → i ≤ k → get_or labels k 0 ≡ get_or before k 0
+
+module _ {x y i : ℕ} {before labels : List ℕ} (r : Renamed x y i before labels) where
+  here : get_or labels i 0 ≡ get_or before i 0
+  here = r.left i (omega arith)
+
+  pub renamed-stay : get_or labels i 0 ≢ x → Renamed x y (i + 1) before labels
+  renamed-stay d = record { done = λ k b. go k b (ℕ_discrete k i); left = λ k b. r.left k (omega arith) }
+    where
+      go : (k : ℕ) → k < i + 1 → Dec (k ≡ i) → get_or labels k 0 ≡ relabel x y (get_or before k 0)
+      go k b (yes e) = subst (λ n. get_or labels n 0 ≡ relabel x y (get_or before n 0)) (sym e) (here ∙ sym (relabel-other x y (get_or before i 0) (λ q. d (here ∙ q))))
+      go k b (no e) = r.done k (omega arith)
+
+  pub renamed-set : i < length labels → get_or labels i 0 ≡ x → Renamed x y (i + 1) before (set labels i y)
+  renamed-set l d = record { done = λ k b. go k b (ℕ_discrete k i); left = λ k b. get_or-set_other labels i k y 0 (omega arith) ∙ r.left k (omega arith) }
+    where
+      go : (k : ℕ) → k < i + 1 → Dec (k ≡ i) → get_or (set labels i y) k 0 ≡ relabel x y (get_or before k 0)
+      go k b (yes e) = subst (λ n. get_or (set labels i y) n 0 ≡ relabel x y (get_or before n 0)) (sym e) (get_or-set_same labels i y 0 l ∙ sym (relabel-same x y (get_or before i 0) (sym here ∙ d)))
+      go k b (no e) = get_or-set_other labels i k y 0 e ∙ r.done k (omega arith)
 
 -- of the stations before s, the labels of the HV stations are marked by 1, and no others
 pub record Marked (N : Network) (labels : List ℕ) (s : ℕ) (marks : List Bool) : Type 0 where
@@ -93,20 +111,24 @@ module _ {N : Network} {labels : List ℕ} {s : ℕ} where
           go g h b c p r (yes u) = λ t. true≢false (sym (m.on g (omega arith) p) ∙ ap (λ n. get_or marks n false) (sym (e ∙ sym (t ∙ ap (label_of labels) u))) ∙ z)
           go g h b c p r (no u) = a.differ g h b (omega arith) p r
 
-module _ {N : Network} {labels : List ℕ} (m : ∥ HoldsParts N labels ∥₁) where
+module _ {N : Network} (d : ∥ Read N ∥₁) where
   -- an HV station is a station
   hv-there : (h : ℕ) → is_hv N h ≡ true → (1 ≤ h) × (h ≤ length N.stations)
-  hv-there h p = ∥∥₁_elim m (×_prop le_prop le_prop) (λ q. hv-in N q.read h p)
+  hv-there h p = ∥∥₁_elim d (×_prop le_prop le_prop) (λ q. hv-in N q h p)
 
-  pub marked_start : (marks : List Bool) → length marks ≡ 513 → ((x : ℕ) → get_or marks x false ≡ false) → Marked N labels 1 marks
-  marked_start marks l z = record {
+  pub marked_start : (labels : List ℕ) (marks : List Bool) → length marks ≡ 513 → ((x : ℕ) → get_or marks x false ≡ false) → Marked N labels 1 marks
+  marked_start labels marks l z = record {
     long = l;
     on = λ h b p. absurd (omega (arith, (hv-there h p).0));
     back = λ x e. absurd (true≢false (sym e ∙ z x));
   }
 
-  pub apart-start : Apart N labels 1
-  apart-start = record { differ = λ g h b c p r. absurd (omega (arith, (hv-there g p).0)) }
+  pub apart-start : (labels : List ℕ) → Apart N labels 1
+  apart-start labels = record { differ = λ g h b c p r. absurd (omega (arith, (hv-there g p).0)) }
+
+module _ {N : Network} {labels : List ℕ} (m : ∥ HoldsParts N labels ∥₁) where
+  pub is_read : ∥ Read N ∥₁
+  is_read = ∥∥₁_map m (λ q. q.read)
 
   -- a label marked before: two HV stations are joined
   pub marked-joined : {s x : ℕ} {marks : List Bool} → Marked N labels s marks → x ≡ label_of labels s → is_hv N s ≡ true → get_or marks x false ≡ true → true ≡ some_joined N
@@ -118,8 +140,8 @@ module _ {N : Network} {labels : List ℕ} (m : ∥ HoldsParts N labels ∥₁) 
   apart-joined l a = go (some_joined N) refl
     where
       never : (g h : ℕ) → is_hv N g ≡ true → is_hv N h ≡ true → g ≢ h → label_of labels g ≡ label_of labels h → Dec (g < h) → ⊥
-      never g h p q e t (yes b) = a.differ g h b (omega (arith, (hv-there h q).1)) p q t
-      never g h p q e t (no b) = a.differ h g (omega arith) (omega (arith, (hv-there g p).1)) q p (sym t)
+      never g h p q e t (yes b) = a.differ g h b (omega (arith, (hv-there is_read h q).1)) p q t
+      never g h p q e t (no b) = a.differ h g (omega arith) (omega (arith, (hv-there is_read g p).1)) q p (sym t)
 
       go : (b : Bool) → some_joined N ≡ b → false ≡ b
       go true e = absurd (∥∥₁_elim m ⊥_prop (λ q. let j = (labelled-joined N q.read labels q.labelled).0 e in never j.0 j.1 j.2 j.3 j.4 j.5 (dec_lt j.0 j.1)))
@@ -133,7 +155,7 @@ module _ {N : Network} {labels : List ℕ} (m : ∥ HoldsParts N labels ∥₁) 
     to-mark : is_supplied N s ≡ true → get_or marks x false ≡ true
     to-mark r = ∥∥₁_elim m (Coded-set coded_bool _ _) (λ q.
         let t = (labelled-supplied N q.read labels q.labelled s l.low l.high).0 r in
-        ap (λ n. get_or marks n false) (e ∙ t.2) ∙ k.on t.0 (omega (arith, (hv-there t.0 t.1).1)) t.1)
+        ap (λ n. get_or marks n false) (e ∙ t.2) ∙ k.on t.0 (omega (arith, (hv-there is_read t.0 t.1).1)) t.1)
 
     pub marked-is : get_or marks x false ≡ is_supplied N s
     marked-is = go (get_or marks x false) refl (is_supplied N s) refl

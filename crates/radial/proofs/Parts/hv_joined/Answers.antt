@@ -3,14 +3,14 @@ use native.Mathlib.Omega.{arith}
 use mathlib.Core.Bool.{false}
 use lib.ListN.{replicate}
 use Rattle.theory.specs.Gathering.{always}
-use Rattle.radial.specs.Stations.{marked_start, marked-skip, marked-set, apart-start, apart-skip, apart_next, marked-joined, apart-joined}
+use Rattle.radial.specs.Stations.{is_read, marked_start, marked-skip, marked-set, apart-start, apart-skip, apart_next, marked-joined, apart-joined}
 use Rattle.radial.proofs.Parts.hv_joined.Goals as goal
 use Rattle.radial.proofs.Parts.hv_joined.Goals.{then-is_hv+else-marks-x, else-is_hv}
 
 pub loop-station-init : goal.loop-station-init
 loop-station-init c =
-    let m = c.args.self.now.holds in
-    (omega arith, omega arith, omega arith, marked_start m (replicate 513 false) refl (always false 513), apart-start m)
+    let d = is_read c.args.self.now.holds in
+    (omega arith, omega arith, omega arith, marked_start d _ (replicate 513 false) refl (always false 513), apart-start d _)
 
 pub label-x-requires : goal.label-x-requires
 label-x-requires c = record { low = omega arith; high = omega arith }

@@ -3,12 +3,12 @@ use native.Mathlib.Omega.{arith}
 use mathlib.Core.Bool.{false}
 use lib.ListN.{replicate}
 use Rattle.theory.specs.Gathering.{always}
-use Rattle.radial.specs.Stations.{Marked, marked_start, marked-skip, marked-set}
+use Rattle.radial.specs.Stations.{Marked, is_read, marked_start, marked-skip, marked-set}
 use Rattle.radial.proofs.Parts.hv_labels.Goals as goal
 use Rattle.radial.proofs.Parts.hv_labels.Goals.{then-is_hv, else-is_hv}
 
 pub loop-station-init : goal.loop-station-init
-loop-station-init c = (omega arith, omega arith, omega arith, marked_start c.args.self.now.holds (replicate 513 false) refl (always false 513))
+loop-station-init c = (omega arith, omega arith, omega arith, marked_start (is_read c.args.self.now.holds) _ (replicate 513 false) refl (always false 513))
 
 pub label-requires : goal.label-requires
 label-requires c = record { low = omega arith; high = omega arith }
