@@ -26,8 +26,10 @@ fn ask_check(file: &[u8], out: &mut [u8]) -> Result<usize, Refusal>
     requires { 164375 ≤ length out.old }
     ensures { Left (commanded Command.Check file.now) result out.new }
 {
-    engine::check(file)?;
-    Ok(text::put_line(out, b'K', &[]))
+    match engine::check(file) {
+        Ok(()) => Ok(text::put_line(out, b'K', &[])),
+        Err(refusal) => Err(refusal),
+    }
 }
 
 // impact LINE: I, the line and the customers that a fault on it cuts off.

@@ -114,7 +114,8 @@ impl Room {
         ensures { network_says result ≡ accepted file.now }
     {
         reader::read(file, &mut self.network)?;
-        self.prepare()?;
+        let rules = self.prepare();
+        rules?;
         Ok(Loaded {
             network: &self.network,
             tree: &self.tree,

@@ -1,10 +1,9 @@
 -- The rows of a segment table in a buffer are those of its definition.
-use Prim.Native.Nat.{ℕ, zero, suc, ◌+◌, ◌*◌, ◌<◌}
+use Prim.Native.Nat.{ℕ, ◌+◌, ◌*◌}
 use mathlib.Core.Path.{◌≡◌, refl, sym, ap, ap₂, ◌∙◌}
 use mathlib.Core.List.{List, [], ◌∷◌, ◌++◌, append_assoc, flat_map}
 use native.Mathlib.Omega.{arith}
-use lib.ListN.{length, get_or, take, drop}
-use Rattle.std.specs.Simd.{first_chunks}
+use lib.ListN.{length, take, drop}
 use lib.Seq.{take_at, drop_at, drop-drop}
 use Rattle.model.specs.Lists.{numbers}
 use Rattle.model.specs.Network.{Network}
@@ -37,11 +36,3 @@ module _ (N : Network) where
 pub table_is : (n : ℕ) (table : List ℕ) → printed_line 71 (n ∷ []) ++ entry_rows n table ≡ table_text n table
 unfolding table_text
 table_is n table = refl
-
--- row i of the first n rows of five numbers that a table is cut into
-pub chunk-is : (n k i : ℕ) (xs other : List ℕ) → i < n → i < k → get_or (take n (first_chunks 5 k xs)) i other ≡ take 5 (drop (5 * i) xs)
-chunk-is zero k i xs other h l = absurd (omega arith)
-chunk-is (suc n) zero i xs other h l = absurd (omega arith)
-chunk-is (suc n) (suc k) zero xs other h l = refl
-chunk-is (suc n) (suc k) (suc i) xs other h l =
-    chunk-is n k i (drop 5 xs) other (omega arith) (omega arith) ∙ ap (take 5) (drop-drop (5 * i) 5 xs ∙ ap (λ (m : ℕ). drop m xs) {x = 5 + 5 * i} {y = 5 * suc i} (omega arith))

@@ -115,8 +115,12 @@ impl Entries<'_> {
             line,
             side: Side::One,
         };
+        let second = End {
+            line,
+            side: Side::Two,
+        };
         let at = self.put_end(first, table);
-        at + self.put_end(first.other(), &mut table[at..])
+        at + self.put_end(second, &mut table[at..])
     }
 
     // The entries of all lines, one behind another; answers how many there are.

@@ -1,33 +1,24 @@
-use Prim.Native.Nat.{ℕ}
-use mathlib.Core.Path.{ap, ◌∙◌}
-use mathlib.Core.List.{List, []}
 use native.Mathlib.Omega.{arith}
-use lib.ListN.{get_or, take, length-take}
-use Rattle.model.specs.Lists.{numbers}
-use Rattle.model.specs.Text.{printed_line}
+use lib.ListN.{length-take, length-drop}
 use Rattle.theory.specs.Sizes.{numbers-length}
-use Rattle.text.proofs.Listing.{listed-none, listed_more, listed-all, number_is, same_text}
-use Rattle.segment_rows.specs.Rows.{entry_row, entry_rows}
-use Rattle.segment_rows.proofs.Entries.{chunk-is}
+use Rattle.text.proofs.Listing.{listed-none, listed_more, listed-all, number_is}
+use Rattle.segment_rows.specs.Rows.{entry_rows}
 use Rattle.segment_rows.proofs.put_entries.Goals as goal
 
-pub loop-row-init : goal.loop-row-init
-loop-row-init c = (omega arith, listed-none _ _ _)
+pub loop-i-init : goal.loop-i-init
+loop-i-init c = (omega arith, omega arith, listed-none _ _ _)
 
-pub loop-row-preserved : goal.loop-row-preserved
-unfolding entry_row
-loop-row-preserved c =
-    let n = c.args.entries in
-    let g = c.loop-row in
-    let i : ℕ = g.row-index in
-    let table : List ℕ = c.args.table.now in
-    let few = length-take n c.as_chunks.result.0.now in
-    let row = ap (λ (rows : List (List ℕ)). printed_line 84 (get_or (take n rows) i [])) c.as_chunks.ensures.front ∙ ap (printed_line 84) (chunk-is n _ i table [] (omega (arith, few)) (omega (arith, few, c.as_chunks.ensures.front_len))) in
-    (omega arith, listed_more (λ k. entry_row table k) (numbers 0 n) _ _ _ _ i _ _ (omega (arith, numbers-length 0 n, few)) (omega (arith, number_is 0 n i (omega (arith, few)))) (omega arith) g.invariant.1 (same_text _ (entry_row table i) _ _ _ row c.put_line-at.ensures.written))
+pub put_entry-at-requires : goal.put_entry-at-requires
+put_entry-at-requires c =
+    let g = c.loop-i in
+    (omega arith, simp (length-take, length-drop) (omega (arith, g.invariant.2.long)))
+
+pub loop-i-preserved : goal.loop-i-preserved
+loop-i-preserved c =
+    let g = c.loop-i in
+    let p = c.put_entry-at in
+    (omega arith, omega arith, listed_more _ _ _ _ _ _ _ _ _ (omega (arith, numbers-length 0 c.args.entries)) (omega (arith, number_is 0 c.args.entries g.i (omega arith))) (omega arith) g.invariant.2 p.ensures.0)
 
 pub returns : goal.returns
 unfolding entry_rows
-returns c =
-    let n = c.args.entries in
-    let all = length-take n c.as_chunks.result.0.now in
-    (listed-all _ _ _ _ _ c.loop-row.row-index (omega (arith, numbers-length 0 n, all)) c.loop-row.invariant.1, omega (arith, all))
+returns c = (listed-all _ _ _ _ _ c.loop-i.i (omega (arith, numbers-length 0 c.args.entries)) c.loop-i.invariant.2, omega arith)

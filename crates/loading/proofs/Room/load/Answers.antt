@@ -1,5 +1,9 @@
-use Rattle.std.proofs.Common.{◌∙◌}
+use Rattle.std.specs.Prelude.{OnOk}
+use Rattle.std.proofs.Common.{◌≡◌, ◌∙◌, subst}
 use Rattle.std.proofs.lemmas.Result.{err_from_is_err_and}
+use Rattle.model.specs.Answer.{given}
+use Rattle.model.specs.Rules.{radial}
+use Rattle.loading.specs.Loading.{before, IsPrepared}
 use Rattle.loading.proofs.Loads.{read-refused, read-holds, rules-next, all-loaded}
 use Rattle.loading.proofs.Room.load.Goals as goal
 
@@ -8,18 +12,24 @@ returns-in_err-read c =
     let p = err_from_is_err_and c.from_residual.result c.from_residual.ensures.1 in
     rw (p.1, p.2) (read-refused c.args.file.now c.in_err-read.ensures)
 
-pub prepare-requires : goal.prepare-requires
-prepare-requires c = read-holds c.args.file.now _ c.in_ok-read.ensures
+pub prepare-rules-requires : goal.prepare-rules-requires
+prepare-rules-requires c = read-holds c.args.file.now _ c.in_ok-read.ensures
 
-pub returns-in_err-prepare : goal.returns-in_err-prepare
-returns-in_err-prepare c =
-    let p = err_from_is_err_and c.from_residual-in_err-prepare.result c.from_residual-in_err-prepare.ensures.1 in
-    rw (p.1, p.2) (c.in_err-prepare.ensures.answer ∙ rules-next c.args.file.now _ c.in_ok-read.ensures)
+pub returns-in_err-rules : goal.returns-in_err-rules
+returns-in_err-rules c =
+    let p = err_from_is_err_and c.from_residual-in_err-rules.result c.from_residual-in_err-rules.ensures.1 in
+    let s = c.prepare-rules.new.self in
+    let answer = subst (λ r. before r (given s.network) ≡ radial c.read.new.net) c.in_err-rules.was c.prepare-rules.ensures.answer in
+    rw (p.1, p.2) (answer ∙ rules-next c.args.file.now _ c.in_ok-read.ensures)
 
 pub invariant_of-result : goal.invariant_of-result
 invariant_of-result c =
-    let answer = c.in_ok-prepare.ensures.answer ∙ rules-next c.args.file.now _ c.in_ok-read.ensures in
-    record { loaded = ∣ all-loaded c.args.file.now _ _ _ answer c.in_ok-prepare.ensures.prepared ∣₁ }
+    let s = c.prepare-rules.new.self in
+    let answer = subst (λ r. before r (given s.network) ≡ radial c.read.new.net) c.in_ok-rules.was c.prepare-rules.ensures.answer ∙ rules-next c.args.file.now _ c.in_ok-read.ensures in
+    let prepared = subst (λ r. OnOk r (IsPrepared s.network s.tree s.paths)) c.in_ok-rules.was c.prepare-rules.ensures.prepared in
+    record { loaded = ∣ all-loaded c.args.file.now _ _ _ answer prepared ∣₁ }
 
 pub returns : goal.returns
-returns c = c.in_ok-prepare.ensures.answer ∙ rules-next c.args.file.now _ c.in_ok-read.ensures
+returns c =
+    let s = c.prepare-rules.new.self in
+    subst (λ r. before r (given s.network) ≡ radial c.read.new.net) c.in_ok-rules.was c.prepare-rules.ensures.answer ∙ rules-next c.args.file.now _ c.in_ok-read.ensures
